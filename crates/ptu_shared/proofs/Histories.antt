@@ -24,9 +24,9 @@ use Rattle.ptu_laws.specs.Sound.{last_sent, sent_part}
 use Rattle.ptu_laws.proofs.{Followed.{AllMayFollow as AllFollow, may-answer}, Stands.{greatest-le}}
 use Rattle.ptu_profile.specs.declared.grandmaster.GmConfig.{GmConfig}
 use Rattle.ptu_shard.specs.{Answered.{responses}, Messages.{departure_of, response_of}, Table.{Kept, StandsBeside, StandsFor}, Turn.{due_messages}}
-use Rattle.ptu_admit.specs.Alone.{AreDecisionsFrom, GoesOnAlone, IsDecisionFrom, StandsAlone}
+use Rattle.ptu_admit.specs.Alone.{AreDecisionsFrom, GoesOnAlone, StandsAlone}
 use Rattle.ptu_rounds.specs.Handed.{SentPart}
-use Rattle.ptu_shared.specs.{Histories.{AllMayFollow, AreMessages, HasHistory, IsMessage, MayFollow, SendsLawfully}, Opening.{HaveFailed, Seen, seen_of}}
+use Rattle.ptu_shared.specs.{Histories.{AllMayFollow, AreMessages, HasHistory, IsMessage}, Opening.{HaveFailed, Seen, seen_of}}
 use Rattle.ptu_shared.proofs.Failing.{failed-append, failed_hands, failed_none}
 
 -- ---- one list of records behind another

@@ -1,12 +1,9 @@
-use Rattle.std.proofs.Common.{◌≡◌, ◌≤◌, ℕ, List, [], ◌∷◌, refl, arith, pos}
-use Rattle.ptu_units.specs.declared.kind.Kind.TheVariants.{Sync}
-use Rattle.ptu_history.specs.History.{Record, Granted, Sent, lease_records}
+use Rattle.std.proofs.Common.{refl, arith}
+use Rattle.ptu_history.specs.History.{lease_records}
 use Rattle.ptu_history.specs.Live.{last_decision, live}
 use Rattle.ptu_history.specs.Runs.{chain, sent_in_chain, sequence_number}
 use Rattle.ptu_history.specs.Lawful.{earliest, last_period, lawful}
-use Rattle.ptu_history.specs.Examples.{first_client, seconds}
 use Rattle.ptu_laws.specs.Sound.{last_sent}
-use Rattle.ptu_shared.specs.Histories.{AllMayFollow, AreMessages}
 use Rattle.ptu_shared.proofs.samples.sample_histories.Goals as goal
 
 pub returns-clause-message_each_second : goal.returns-clause-message_each_second
