@@ -5,7 +5,6 @@ ghost use Rattle.std.specs.Option.{option_map};
 ghost use Rattle.ptu_history.specs.{Client.{table_of as table_of_client}, History.{Record}};
 ghost use Rattle.ptu_history.specs.{Verdict.{verdict}, Events.{Request}};
 ghost use Rattle.ptu_history.specs.Step.{step, verdict_records};
-ghost use Rattle.ptu_profile.specs.Grandmaster.{IsWithinLimits};
 ghost use Rattle.ptu_shard.specs.Row.{share_of};
 ghost use Rattle.ptu_admit.specs.Alone.{GoesOnAlone, IsDecidedIn};
 ghost use Rattle.ptu_admit.specs.Lent.{EachStandsAt, Lent, StandFor, four, is_lent, live_others, moment_for, moment_of_lent, rows_of_lent, shares, table_for};
@@ -41,7 +40,6 @@ pub fn decide_one<P: Port>(
     client: &Client,
     ask: &Ask,
 ) -> Option<Verdict>
-    requires limits { IsWithinLimits config.now }
     requires room { 0 < shard.old.spare }
     requires share { share_of shard.old.rows ≤ book.old.total }
     ensures answer { option_map verdict_of result
@@ -106,7 +104,6 @@ pub fn decide_all<P: Port>(
     client: &Client,
     ask: &Ask,
 ) -> Verdict
-    requires limits { IsWithinLimits config.now }
     // The client's table has room for a row.
     requires room { (table_of_client client.now ≡ 0 → 0 < s0.old.spare)
         × (table_of_client client.now ≡ 1 → 0 < s1.old.spare)
@@ -203,7 +200,6 @@ fn decide_among<P: Port>(
     config: &GmConfig,
     claim: &Claim,
 ) -> Verdict
-    requires limits { IsWithinLimits config.now }
     requires room { (table_of_client claim.now.client ≡ 0 → 0 < s0.old.spare)
         × (table_of_client claim.now.client ≡ 1 → 0 < s1.old.spare)
         × (table_of_client claim.now.client ≡ 2 → 0 < s2.old.spare)

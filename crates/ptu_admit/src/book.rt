@@ -5,7 +5,7 @@ ghost use Rattle.std.specs.Prelude.{◌≡◌, ◌≤◌, ◌+◌, ◌-◌, List
 ghost use Rattle.ptu_units.specs.Limits.{IsCapacity};
 ghost use Rattle.ptu_admit.specs.Lent.{EachStandsAt, Lent, StandFor, shares};
 
-use ptu_units::Moment;
+use ptu_units::{Capacity, Moment};
 use std::marker::Model;
 
 /// The book beside four tables: the capacity in force, in sixteenths of a message per second, the
@@ -13,7 +13,7 @@ use std::marker::Model;
 /// which is the sum of the rates of all rows of the four tables. The total is at most the capacity.
 #[derive(Drop)]
 pub struct Book {
-    capacity: u64,
+    capacity: Capacity,
     moment: Moment,
     total: u64,
 }
@@ -21,21 +21,19 @@ pub struct Book {
 impl Model for Book {
     ghost use Rattle.std.specs.Prelude.{◌≤◌};
     ghost use Rattle.ptu_admit.specs.Book.{KeptBook};
-    ghost use Rattle.ptu_units.specs.Limits.{IsCapacity};
 
     ghost Value = { KeptBook };
 
     ghost view = { λ b. record { capacity = b.capacity; moment = b.moment; total = b.total } };
 
-    ghost invariant = { λ b. (b.total ≤ b.capacity) × IsCapacity b.capacity };
+    ghost invariant = { λ b. b.total ≤ b.capacity };
 
     ghost inverse = { λ b. record { capacity = b.capacity; moment = b.moment; total = b.total } };
 }
 
 impl Book {
     /// The book of four tables without rows, at moment 0.
-    pub fn new(capacity: u64) -> Book
-        requires { IsCapacity capacity }
+    pub fn new(capacity: Capacity) -> Book
         ensures kept { result ≡ record { capacity = capacity; moment = 0; total = 0 } }
         // Beside tables that stand for the empty history and have no rows, it stands for that.
         ensures stands { (lent : List Lent) → EachStandsAt 0 lent [] → shares lent ≡ 0 →
@@ -53,7 +51,7 @@ impl Book {
         ensures value { result ≡ self.now.capacity }
         ensures range { IsCapacity result }
     {
-        self.capacity
+        self.capacity.get()
     }
 
     /// The sum of the rates of all rows of the four tables, in sixteenths of a message per second.
@@ -88,8 +86,7 @@ impl Book {
     }
 
     // The capacity was changed by a decision at the moment.
-    pub(crate) fn change(&mut self, capacity: u64, at: Moment)
-        requires range { IsCapacity capacity }
+    pub(crate) fn change(&mut self, capacity: Capacity, at: Moment)
         requires fits { self.old.total ≤ capacity }
         ensures { self.new ≡ record self.old { capacity = capacity; moment = at } }
     {

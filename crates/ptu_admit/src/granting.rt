@@ -1,10 +1,9 @@
 //! Grants on a table that is lent beside the book.
 
 ghost use Rattle.std.specs.Prelude.{◌≡◌, ◌≢◌, ℕ, ◌+◌, ◌-◌, ◌*◌, ◌≤◌, ◌<◌, min, List, [], ◌∷◌, ◌++◌, IfSome, IfNone};
-ghost use Rattle.ptu_units.specs.Log.{period_of, rate_of};
+ghost use Rattle.ptu_units.specs.{Limits.{IsCapacity}, Log.{period_of, rate_of}};
 ghost use Rattle.ptu_history.specs.{Client.{table_of}, History.{Record, Granted}};
 ghost use Rattle.ptu_history.specs.Step.{verdict_records};
-ghost use Rattle.ptu_profile.specs.Grandmaster.{IsWithinLimits};
 ghost use Rattle.ptu_shard.specs.{Row.{IsDistinctByLease, share_of}, Table.{StandsBeside}};
 ghost use Rattle.ptu_admit.specs.{Rows.{kept_rate}, Tables.{KeepsPort}};
 ghost use Rattle.ptu_admit.specs.Verdict.{IsAt, IsFor, OnOutside, config_of, verdict_of, verdict_on};
@@ -31,7 +30,7 @@ pub(crate) fn others_beside<P: Port>(
     requires { share_of shard.now.rows ≤ book.now.total }
     ensures value { result ≡ book.now.total - kept_rate client.now kind shard.now.rows }
     ensures within { book.now.total ≤ book.now.capacity }
-    ensures limit { book.now.capacity ≤ 16777216 }
+    ensures limit { IsCapacity book.now.capacity }
     ensures distinct { IsDistinctByLease shard.now.rows }
 {
     let _share = shard.held();
@@ -80,12 +79,10 @@ pub(crate) fn grant<P: Port>(
     client: &Client,
     wanted: Wanted,
 ) -> Grant
-    requires limits { IsWithinLimits config.now }
     requires room { 0 < shard.old.spare }
     requires reached { shard.old.moment ≤ at }
     requires share { share_of shard.old.rows ≤ book.old.total }
     requires within { book.old.total ≤ book.old.capacity }
-    requires limit { book.old.capacity ≤ 16777216 }
     requires fits { book.old.total - kept_rate client.now wanted.kind shard.old.rows
         + rate_of wanted.log ≤ book.old.capacity }
     ensures granted { let seconds = min wanted.seconds config.now.max_duration in
@@ -107,8 +104,9 @@ pub(crate) fn grant<P: Port>(
         StandsBeside at j shard.new
         (history ++ Granted at client.now wanted.kind wanted.log result.until ∷ []) }
 {
+    let _capacity = book.capacity();
     let before = shard.held();
-    let seconds = wanted.seconds.min(config.max_duration);
+    let seconds = wanted.seconds.min(config.max_duration.get());
     let until = at.nanos() + u64::from(seconds) * NANOS_PER_SECOND;
     shard.sweep(at);
     let former = shard.lease(client, wanted.kind);
@@ -132,7 +130,6 @@ pub(crate) fn decide_swept<P: Port>(
     client: &Client,
     wanted: Wanted,
 ) -> Verdict
-    requires limits { IsWithinLimits config.now }
     requires room { 0 < shard.old.spare }
     requires reached { shard.old.moment ≡ at }
     requires share { share_of shard.old.rows ≤ book.old.total }

@@ -3,7 +3,6 @@
 ghost use Rattle.std.specs.Prelude.{◌≡◌, ℕ, ◌+◌, ◌<◌, ◌≤◌, max, List, map, ◌++◌, IfOk, OnErr, OnOk};
 ghost use Rattle.ptu_history.specs.{History.{Record}, Verdict.{Config}, Events.{Resize}};
 ghost use Rattle.ptu_history.specs.{Shedding.{shed_grants}, Step.{step}};
-ghost use Rattle.ptu_units.specs.Limits.{IsCapacity};
 ghost use Rattle.ptu_admit.specs.{Lent.{StandFor, four, moment_for_all, shares}, Newest.{rows_in}};
 ghost use Rattle.ptu_admit.specs.{Alone.{GoesOnAlone}, Shed.{shed_of}, Tables.{KeepsPort}};
 
@@ -13,7 +12,7 @@ use crate::shedding::{Shedding, shed_above};
 use crate::sweeping::{latest_of, sweep_all};
 use ptu_outside::Port;
 use ptu_shard::Shard;
-use ptu_units::{Moment, OutOfMemory};
+use ptu_units::{Capacity, Moment, OutOfMemory};
 use std::alloc::Global;
 
 /// What a change of capacity did.
@@ -40,9 +39,8 @@ pub fn resize<P: Port>(
     s3: &mut Shard<P>,
     book: &mut Book,
     t: Moment,
-    capacity: u64,
+    capacity: Capacity,
 ) -> Result<Resized, OutOfMemory>
-    requires capacity { IsCapacity capacity }
     requires sum { book.old.total ≡ shares (four s0.old s1.old s2.old s3.old) }
     ensures at { IfOk result (λ r. r.at
         ≡ moment_for_all t book.old (four s0.old s1.old s2.old s3.old)) }
@@ -71,10 +69,14 @@ pub fn resize<P: Port>(
         × GoesOnAlone 2 s2.old s2.new × GoesOnAlone 3 s3.old s3.new }
 {
     let at = latest_of(s0, s1, s2, s3, book, t);
-    let count = count_above(s0, s1, s2, s3, book, capacity);
+    let count = count_above(s0, s1, s2, s3, book, capacity.get());
     let order = Vec::with_capacity(alloc, count)?;
     let list = Vec::with_capacity(alloc, count)?;
-    let shedding = Shedding { at, capacity, list };
+    let shedding = Shedding {
+        at,
+        capacity: capacity.get(),
+        list,
+    };
     sweep_all(s0, s1, s2, s3, book, at);
     let list = shed_above(s0, s1, s2, s3, book, order, shedding);
     book.change(capacity, at);

@@ -1,5 +1,6 @@
 -- What each field of the settings of both nodes stands for.
 use Rattle.std.specs.Prelude.{◌≤◌, List, [], ◌∷◌}
+use Rattle.ptu_units.specs.Limits.{IsDomain, IsPort, IsUdpPort}
 use Rattle.ptu_config.specs.declared.key.Key.{Key}
 use Rattle.ptu_config.specs.declared.key.Key.TheVariants.{Ip, EventPort, GeneralPort, Clock, Port, Domain, Rounds, Repeat}
 use Rattle.ptu_config.specs.{declared.common.Common.{Common}, Rules.{Value, number}}
@@ -14,9 +15,9 @@ common_entries c = (Ip, number c.ip) ∷ (EventPort, number c.event_port)
 
 -- the settings of both nodes are within their ranges
 pub record IsCommonInRange (c : Common) : Type 0 where
-  pub event_port : 1 ≤ c.event_port
-  pub general_port : 1 ≤ c.general_port
-  pub port : (1 ≤ c.port) × (c.port ≤ 65534)
-  pub domain : (4 ≤ c.domain) × (c.domain ≤ 23)
+  pub event_port : IsUdpPort c.event_port
+  pub general_port : IsUdpPort c.general_port
+  pub port : IsPort c.port
+  pub domain : IsDomain c.domain
   pub rounds : 1 ≤ c.rounds
   pub repeat : IsRepeat c.repeat

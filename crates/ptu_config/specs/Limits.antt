@@ -1,30 +1,30 @@
 -- The ranges of settings that were read, for those who take them.
-use Rattle.std.specs.Prelude.{◌≡◌, ◌<◌, ◌≤◌, ◌^◌, true, IsSome, IfSome}
+use Rattle.std.specs.Prelude.{◌≡◌, ◌<◌, ◌≤◌, true, IsSome, IfSome}
 use Rattle.ptu_units.specs.declared.kind.Kind.TheVariants.{Announce, Sync, DelayResp}
 use Rattle.ptu_units.specs.Log.{IsLogOf}
-use Rattle.ptu_units.specs.Limits.{IsCapacity, IsDomain, IsDuration, IsPort, IsTimeout, IsWait}
+use Rattle.ptu_units.specs.Limits.{IsCapacity, IsDomain, IsDuration, IsEpoch, IsPort, IsSenders, IsTimeout, IsUdpPort, IsWait}
 use Rattle.ptu_config.specs.declared.settings.GmSettings.{GmSettings}
 use Rattle.ptu_config.specs.{declared.settings.SlaveSettings.{SlaveSettings}, Masters.{are_masters}, Rounds.{IsRepeat}}
 
 -- the settings of a grandmaster are within their ranges
 pub record IsGmInRange (s : GmSettings) : Type 0 where
-  pub event_port : 1 ≤ s.event_port
-  pub general_port : 1 ≤ s.general_port
+  pub event_port : IsUdpPort s.event_port
+  pub general_port : IsUdpPort s.general_port
   pub port : IsPort s.port
   pub domain : IsDomain s.domain
   pub rounds : 1 ≤ s.rounds
   pub repeat : IsRepeat s.repeat
   pub capacity : IsCapacity s.capacity
   pub max_duration : IsDuration s.max_duration
-  pub epoch : s.epoch < 2 ^ 47
-  pub senders : s.senders ≤ 4
+  pub epoch : IsEpoch s.epoch
+  pub senders : IsSenders s.senders
   pub new_capacity : IfSome s.new_capacity IsCapacity
   pub change : 0 < s.change_round → IsSome s.new_capacity
 
 -- the settings of a slave are within their ranges
 pub record IsSlaveInRange (s : SlaveSettings) : Type 0 where
-  pub event_port : 1 ≤ s.event_port
-  pub general_port : 1 ≤ s.general_port
+  pub event_port : IsUdpPort s.event_port
+  pub general_port : IsUdpPort s.general_port
   pub port : IsPort s.port
   pub domain : IsDomain s.domain
   pub rounds : 1 ≤ s.rounds

@@ -1,7 +1,10 @@
 -- The table of all settings: the form of each, its range, and what it is where its key is not
 -- there. They are this project's own choice.
-use Rattle.std.specs.Prelude.{ℕ, suc, ◌-◌, ◌^◌, if◌then◌else◌, Bool, true, false, List, [], ◌∷◌, ◌++◌, Option, Some, None, option_map, ℤ, pos, negsuc}
+use Rattle.std.specs.Prelude.{ℕ, suc, if◌then◌else◌, Bool, true, false, List, [], ◌∷◌, ◌++◌, Option, Some, None, option_map, ℤ, pos, negsuc}
 use Rattle.toml.specs.Data.{Data, Members, as_bool, integer, get_member}
+use Rattle.ptu_units.specs.Limits.{least_capacity, greatest_capacity, least_domain, greatest_domain, least_duration, greatest_duration}
+use Rattle.ptu_units.specs.Limits.{greatest_epoch, least_port, greatest_port, greatest_senders, least_timeout, greatest_timeout}
+use Rattle.ptu_units.specs.Limits.{least_udp_port, greatest_udp_port, greatest_wait}
 use Rattle.ptu_config.specs.declared.key.Key.{Key}
 use Rattle.ptu_config.specs.declared.key.Key.TheVariants.{Ip, EventPort, GeneralPort, Clock, Port, Domain, Rounds, Repeat, Class, Capacity, MaxDuration, Epoch, Senders, ChangeRound, NewCapacity, TwoStep, WaitToRestore, AnnounceTimeout, SyncTimeout, DelayTimeout, LogAnnounce, LogSync, LogDelay, Duration, Masters}
 use Rattle.ptu_config.specs.{declared.master.MasterSetting.{MasterSetting}, Key.{name_of}}
@@ -35,29 +38,29 @@ pub data Rule : Type 0 where
 
 abbrev pub rule_of : Key → Rule
 rule_of Ip = required address
-rule_of EventPort = optional (whole 1 65535) (number 319)
-rule_of GeneralPort = optional (whole 1 65535) (number 320)
+rule_of EventPort = optional (whole least_udp_port greatest_udp_port) (number 319)
+rule_of GeneralPort = optional (whole least_udp_port greatest_udp_port) (number 320)
 rule_of Clock = required identity
-rule_of Port = optional (whole 1 65534) (number 1)
-rule_of Domain = optional (whole 4 23) (number 4)
+rule_of Port = optional (whole least_port greatest_port) (number 1)
+rule_of Domain = optional (whole least_domain greatest_domain) (number 4)
 rule_of Rounds = required (whole 1 4294967295)
 rule_of Repeat = optional (whole 1 1000) (number 1)
 rule_of Class = optional (whole 0 255) (number 84)
-rule_of Capacity = required (whole 1 16777216)
-rule_of MaxDuration = optional (whole 60 1000) (number 1000)
-rule_of Epoch = optional (whole 0 (2 ^ 47 - 1)) (number 0)
-rule_of Senders = optional (whole 0 4) (number 0)
+rule_of Capacity = required (whole least_capacity greatest_capacity)
+rule_of MaxDuration = optional (whole least_duration greatest_duration) (number 1000)
+rule_of Epoch = optional (whole 0 greatest_epoch) (number 0)
+rule_of Senders = optional (whole 0 greatest_senders) (number 0)
 rule_of ChangeRound = optional (whole 0 4294967295) (number 0)
-rule_of NewCapacity = required_with ChangeRound (whole 1 16777216)
+rule_of NewCapacity = required_with ChangeRound (whole least_capacity greatest_capacity)
 rule_of TwoStep = optional boolean (truth false)
-rule_of WaitToRestore = optional (whole 0 720) (number 300)
-rule_of AnnounceTimeout = optional (whole 2 10) (number 3)
-rule_of SyncTimeout = optional (whole 2 10) (number 3)
-rule_of DelayTimeout = optional (whole 2 10) (number 3)
+rule_of WaitToRestore = optional (whole 0 greatest_wait) (number 300)
+rule_of AnnounceTimeout = optional (whole least_timeout greatest_timeout) (number 3)
+rule_of SyncTimeout = optional (whole least_timeout greatest_timeout) (number 3)
+rule_of DelayTimeout = optional (whole least_timeout greatest_timeout) (number 3)
 rule_of LogAnnounce = optional (log (negsuc 2) (pos 4)) (logarithm (pos 1))
 rule_of LogSync = optional (log (negsuc 6) (pos 4)) (logarithm (negsuc 3))
 rule_of LogDelay = optional (log (negsuc 6) (pos 4)) nothing
-rule_of Duration = optional (whole 60 1000) (number 300)
+rule_of Duration = optional (whole least_duration greatest_duration) (number 300)
 rule_of Masters = required master_tables
 
 -- the settings of both, in their order

@@ -6,18 +6,20 @@ ghost use Rattle.ptu_config.specs.Common.{IsCommonInRange, common_entries};
 
 use crate::fault::SettingFault;
 use crate::key::Key;
+use crate::limited::{domain, port, udp_port_or};
 use crate::values::{address, identity, whole, whole_or};
+use ptu_units::{Domain, PortNumber, UdpPortNumber};
 use toml::Table;
 
 /// The settings of both nodes.
 #[derive(Clone, Copy)]
 pub(crate) struct Common {
     pub(crate) ip: u32,
-    pub(crate) event_port: u16,
-    pub(crate) general_port: u16,
+    pub(crate) event_port: UdpPortNumber,
+    pub(crate) general_port: UdpPortNumber,
     pub(crate) clock: u64,
-    pub(crate) port: u16,
-    pub(crate) domain: u8,
+    pub(crate) port: PortNumber,
+    pub(crate) domain: Domain,
     pub(crate) rounds: u32,
     pub(crate) repeat: u32,
 }
@@ -30,13 +32,13 @@ pub(crate) fn common_of(table: &Table) -> Result<Common, SettingFault>
         option_map SettingFault.Bad (first_bad common_keys (table_view table.now)) ≡ Some fault) }
 {
     let ip = address(table, Key::Ip)?;
-    let event_port = whole_or(table, Key::EventPort, 1, 65535, 319)? as u16;
-    let general_port = whole_or(table, Key::GeneralPort, 1, 65535, 320)? as u16;
+    let event_port = udp_port_or(table, Key::EventPort, UdpPortNumber::EVENT)?;
+    let general_port = udp_port_or(table, Key::GeneralPort, UdpPortNumber::GENERAL)?;
     let clock = identity(table, Key::Clock)?;
-    let port = whole_or(table, Key::Port, 1, 65534, 1)? as u16;
-    let domain = whole_or(table, Key::Domain, 4, 23, 4)? as u8;
-    let rounds = whole(table, Key::Rounds, 1, 4_294_967_295)? as u32;
-    let repeat = whole_or(table, Key::Repeat, 1, 1000, 1)? as u32;
+    let port = port(table)?;
+    let domain = domain(table)?;
+    let rounds = whole(table, Key::Rounds, 1, u32::MAX)?;
+    let repeat = whole_or(table, Key::Repeat, 1, 1000, 1)?;
     Ok(Common {
         ip,
         event_port,

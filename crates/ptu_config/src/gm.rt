@@ -10,8 +10,10 @@ use crate::common::common_of;
 use crate::document::document;
 use crate::fault::SettingFault;
 use crate::key::Key;
+use crate::limited::{capacity, capacity_of, duration_or, epoch, senders};
 use crate::settings::GmSettings;
-use crate::values::{lookup, truth_or, whole, whole_of, whole_or};
+use crate::values::{class, lookup, truth_or, whole_or};
+use ptu_units::{Capacity, GrantSeconds};
 use std::alloc::Global;
 use toml::Table;
 
@@ -35,19 +37,16 @@ const GM_KEYS: [Key; 16] = [
     Key::TwoStep,
 ];
 
-/// The greatest capacity, in sixteenths of a message per second.
-const MOST_CAPACITY: u64 = 1 << 24;
-
 // The capacity from the change on, which is required where a round of change is named.
 #[tactic(auto, unfolding(crate::specs::Rules::setting_of), using(crate::proofs::Rounds::is_named))]
-fn new_capacity(table: &Table, change_round: u32) -> Result<Option<u64>, SettingFault>
+fn new_capacity(table: &Table, change_round: u32) -> Result<Option<Capacity>, SettingFault>
     requires { setting_of (table_view table.now) Key.ChangeRound ≡ Some (number change_round) }
     ensures said { IsSaid (table_view table.now) Key.NewCapacity number_or_nothing result }
     ensures range { IfOk result (λ found. IfSome found IsCapacity) }
     ensures change { IfOk result (λ found. 0 < change_round → IsSome found) }
 {
     match lookup(table, Key::NewCapacity.name()) {
-        Some(value) => match whole_of(value, 1, MOST_CAPACITY) {
+        Some(value) => match capacity_of(value) {
             Some(capacity) => Ok(Some(capacity)),
             None => Err(SettingFault::Bad(Key::NewCapacity)),
         },
@@ -65,12 +64,12 @@ fn gm_of(table: &Table) -> Result<GmSettings, SettingFault>
         option_map SettingFault.Bad (first_bad gm_keys (table_view table.now)) ≡ Some fault) }
 {
     let common = common_of(table)?;
-    let class = whole_or(table, Key::Class, 0, 255, 84)? as u8;
-    let capacity = whole(table, Key::Capacity, 1, MOST_CAPACITY)?;
-    let max_duration = whole_or(table, Key::MaxDuration, 60, 1000, 1000)? as u32;
-    let epoch = whole_or(table, Key::Epoch, 0, (1 << 47) - 1, 0)?;
-    let senders = whole_or(table, Key::Senders, 0, 4, 0)? as u8;
-    let change_round = whole_or(table, Key::ChangeRound, 0, 4_294_967_295, 0)? as u32;
+    let class = class(table)?;
+    let capacity = capacity(table)?;
+    let max_duration = duration_or(table, Key::MaxDuration, GrantSeconds::LONGEST)?;
+    let epoch = epoch(table)?;
+    let senders = senders(table)?;
+    let change_round = whole_or(table, Key::ChangeRound, 0, u32::MAX, 0)?;
     let new_capacity = new_capacity(table, change_round)?;
     let two_step = truth_or(table, Key::TwoStep, false)?;
     Ok(GmSettings {

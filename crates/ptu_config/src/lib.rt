@@ -9,6 +9,7 @@ mod fault;
 mod gm;
 mod key;
 pub mod laws;
+mod limited;
 mod master;
 mod master_tables;
 mod octets;

@@ -10,7 +10,7 @@ ghost use Rattle.ptu_config.specs.declared.fault.SettingFault.TheVariants.{OutOf
 use crate::fault::SettingFault;
 use crate::key::Key;
 use crate::master::{MasterList, MasterSetting};
-use crate::values::{address_of, lookup, whole_of};
+use crate::values::{address_of, lookup, octet_of};
 use ptu_units::OutOfMemory;
 use std::alloc::Global;
 use toml::{Table, Value};
@@ -63,10 +63,7 @@ fn priority(table: &Table) -> Option<u8>
         (get_member (codes "priority") (table_view table.now)) }
 {
     match lookup(table, "priority") {
-        Some(value) => {
-            let priority = whole_of(value, 0, 255)?;
-            Some(priority as u8)
-        }
+        Some(value) => octet_of(value),
         None => Some(PRIORITY),
     }
 }

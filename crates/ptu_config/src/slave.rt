@@ -10,10 +10,11 @@ use crate::common::common_of;
 use crate::document::document;
 use crate::fault::SettingFault;
 use crate::key::Key;
+use crate::limited::{announce_log, duration_or, timeout, wait};
 use crate::master_tables::master_list;
 use crate::settings::SlaveSettings;
-use crate::values::{log, log_or, whole_or};
-use ptu_units::Kind;
+use crate::values::{log, log_or};
+use ptu_units::{GrantSeconds, Kind};
 use std::alloc::Global;
 use toml::Table;
 
@@ -47,14 +48,14 @@ fn slave_of(alloc: Global, table: &Table) -> Result<SlaveSettings, SettingFault>
         (option_map SettingFault.Bad (first_bad slave_keys (table_view table.now)) ≡ Some fault)) }
 {
     let common = common_of(table)?;
-    let wait_to_restore = whole_or(table, Key::WaitToRestore, 0, 720, 300)? as u32;
-    let announce_timeout = whole_or(table, Key::AnnounceTimeout, 2, 10, 3)? as u8;
-    let sync_timeout = whole_or(table, Key::SyncTimeout, 2, 10, 3)? as u8;
-    let delay_timeout = whole_or(table, Key::DelayTimeout, 2, 10, 3)? as u8;
-    let log_announce = log_or(table, Key::LogAnnounce, Kind::Announce, 1)?;
+    let wait_to_restore = wait(table)?;
+    let announce_timeout = timeout(table, Key::AnnounceTimeout)?;
+    let sync_timeout = timeout(table, Key::SyncTimeout)?;
+    let delay_timeout = timeout(table, Key::DelayTimeout)?;
+    let log_announce = announce_log(table)?;
     let log_sync = log_or(table, Key::LogSync, Kind::Sync, -4)?;
     let log_delay = log(table, Key::LogDelay, Kind::DelayResp)?;
-    let duration = whole_or(table, Key::Duration, 60, 1000, 300)? as u32;
+    let duration = duration_or(table, Key::Duration, GrantSeconds::REQUESTED)?;
     let masters = master_list(alloc, table)?;
     Ok(SlaveSettings {
         ip: common.ip,

@@ -12,6 +12,9 @@ use crate::key::Key;
 use ptu_units::{Kind, Log};
 use toml::{Table, Value};
 
+/// The clockClass of a grandmaster whose settings name none.
+const CLASS: u8 = 84;
+
 // The value of a key, where the key is there.
 pub(crate) fn lookup<'a>(table: &'a Table, name: &str) -> Option<&'a Value>
     ensures { option_map (λ value. view value.now) result
@@ -57,8 +60,23 @@ pub(crate) fn whole_of(value: &Value, least: u64, greatest: u64) -> Option<u64>
     }
 }
 
+// A whole number of 32 bits from `least` to `greatest`.
+fn count_of(value: &Value, least: u32, greatest: u32) -> Option<u32>
+    ensures value { result ≡ whole_in least greatest (view value.now) }
+    ensures range { IfSome result (λ n. (least ≤ n) × (n ≤ greatest)) }
+{
+    u32::try_from(whole_of(value, least.into(), greatest.into())?).ok()
+}
+
+// A whole number from 0 to 255.
+pub(crate) fn octet_of(value: &Value) -> Option<u8>
+    ensures { result ≡ whole_in 0 255 (view value.now) }
+{
+    u8::try_from(whole_of(value, 0, u8::MAX.into())?).ok()
+}
+
 // A logarithm in the range of the kind.
-fn log_of(value: &Value, kind: Kind) -> Option<Log>
+pub(crate) fn log_of(value: &Value, kind: Kind) -> Option<Log>
     ensures value { result ≡ signed_in (least_log kind) (pos 4) (view value.now) }
     ensures range { IfSome result (IsLogOf kind) }
 {
@@ -96,13 +114,13 @@ pub(crate) fn identity(table: &Table, key: Key) -> Result<u64, SettingFault>
 
 /// A setting that is a whole number from `least` to `greatest` and required.
 #[tactic(auto, unfolding(crate::specs::Rules::setting_of))]
-pub(crate) fn whole(table: &Table, key: Key, least: u64, greatest: u64) -> Result<u64, SettingFault>
+pub(crate) fn whole(table: &Table, key: Key, least: u32, greatest: u32) -> Result<u32, SettingFault>
     requires { rule_of key ≡ required (whole least greatest) }
     ensures said { IsSaid (table_view table.now) key number result }
     ensures range { IfOk result (λ n. (least ≤ n) × (n ≤ greatest)) }
 {
     match lookup(table, key.name()) {
-        Some(value) => whole_of(value, least, greatest).ok_or(SettingFault::Bad(key)),
+        Some(value) => count_of(value, least, greatest).ok_or(SettingFault::Bad(key)),
         None => Err(SettingFault::Bad(key)),
     }
 }
@@ -113,10 +131,10 @@ pub(crate) fn whole(table: &Table, key: Key, least: u64, greatest: u64) -> Resul
 pub(crate) fn whole_or(
     table: &Table,
     key: Key,
-    least: u64,
-    greatest: u64,
-    otherwise: u64,
-) -> Result<u64, SettingFault>
+    least: u32,
+    greatest: u32,
+    otherwise: u32,
+) -> Result<u32, SettingFault>
     requires rule { rule_of key ≡ optional (whole least greatest) (number otherwise) }
     requires low { least ≤ otherwise }
     requires high { otherwise ≤ greatest }
@@ -124,8 +142,19 @@ pub(crate) fn whole_or(
     ensures range { IfOk result (λ n. (least ≤ n) × (n ≤ greatest)) }
 {
     match lookup(table, key.name()) {
-        Some(value) => whole_of(value, least, greatest).ok_or(SettingFault::Bad(key)),
+        Some(value) => count_of(value, least, greatest).ok_or(SettingFault::Bad(key)),
         None => Ok(otherwise),
+    }
+}
+
+/// The setting `class`, 84 where its key is not there.
+#[tactic(auto, unfolding(crate::specs::Rules::setting_of))]
+pub(crate) fn class(table: &Table) -> Result<u8, SettingFault>
+    ensures { IsSaid (table_view table.now) Key.Class number result }
+{
+    match lookup(table, Key::Class.name()) {
+        Some(value) => octet_of(value).ok_or(SettingFault::Bad(Key::Class)),
+        None => Ok(CLASS),
     }
 }
 

@@ -98,7 +98,7 @@ fn asks(
     ensures { IfOk result (λ found. found
         ≡ items_by config.now header.now (Body.Signaling target.now tlvs.now)) }
 {
-    if header.domain != config.domain {
+    if header.domain != config.domain.get() {
         return Ok(Err(GmReason::Domain(header.domain)));
     }
     if !matches(config.identity, *target) {
@@ -143,7 +143,7 @@ fn hear_message(
 {
     let header = message.header;
     if let Body::DelayReq(_) = &message.body {
-        return Ok(if header.domain == config.domain {
+        return Ok(if header.domain == config.domain.get() {
             Ok(Heard::DelayReq(header))
         } else {
             Err(GmReason::Domain(header.domain))

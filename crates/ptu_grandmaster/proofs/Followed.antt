@@ -169,7 +169,7 @@ event_within : (config : GmConfig) (e : GmEvent) → IsTimely e → IsPossible e
 event_within config (Take t from bytes) timely possible = heard_within t from (heard_in config bytes) (omega arith)
 event_within config (Turn t table) timely possible = one_within t (events.Turn table) [] (omega arith) tt none_within
 event_within config (Class class) timely possible = none_within
-event_within config (Capacity t capacity) timely possible = let most = possible.1 in one_within t (events.Resize capacity) [] (omega arith) (omega arith) none_within
+event_within config (Capacity t capacity) timely possible = let most = timely.1.1 in let handed = timely.0 in one_within t (events.Resize capacity) [] (omega arith) (omega arith) none_within
 
 -- ---- a class changes no event
 

@@ -23,12 +23,12 @@ events_of config (Capacity t capacity) = (t, events.Resize capacity) ∷ []
 abbrev pub driven_history : GmConfig → ℕ → List GmEvent → List Record
 driven_history config capacity all = core_history (opened_with capacity config) (flat_map (events_of config) all)
 
--- a table is one of the four, and a capacity is within its limits
+-- a table is one of the four
 abbrev pub IsPossible : GmEvent → Type 0
 IsPossible (Take t from bytes) = Unit {0}
 IsPossible (Turn t table) = table < 4
 IsPossible (Class class) = Unit {0}
-IsPossible (Capacity t capacity) = IsCapacity capacity
+IsPossible (Capacity t capacity) = Unit {0}
 
 -- the two differ in their class alone
 abbrev pub IsSetUpAs : GmConfig → GmConfig → Type 0
@@ -40,9 +40,9 @@ sent_taken (Ignored reason) = 0
 sent_taken (Delay answered) = sent_by answered + failed_by answered
 sent_taken (Asked outcomes reply) = 0
 
--- the moment that the event is handed is one
+-- the moment that the event is handed is one, and its capacity is within its limits
 abbrev pub IsTimely : GmEvent → Type 0
 IsTimely (Take t from bytes) = t < 2 ^ 62
 IsTimely (Turn t table) = t < 2 ^ 62
 IsTimely (Class class) = Unit {0}
-IsTimely (Capacity t capacity) = t < 2 ^ 62
+IsTimely (Capacity t capacity) = (t < 2 ^ 62) × IsCapacity capacity

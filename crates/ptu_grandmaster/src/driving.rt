@@ -3,9 +3,8 @@
 ghost use Rattle.std.specs.Prelude.{◌≡◌, ◌+◌, ◌*◌, ◌^◌, ◌<◌, ◌≤◌, ℕ, List, All, IfOk, OnOk};
 ghost use Rattle.ptu_history.specs.{Core.{history_after}, Counts.{counts}, Held.{budget, count}};
 ghost use Rattle.ptu_history.specs.History.{Record};
-ghost use Rattle.ptu_profile.specs.Grandmaster.{IsWithinLimits};
-ghost use Rattle.ptu_units.specs.Limits.{IsCapacity};
 ghost use Rattle.ptu_gm_messages.specs.Deciding.{opened_with};
+ghost use Rattle.ptu_units.specs.Limits.{IsCapacity};
 ghost use Rattle.ptu_grandmaster.specs.Driven.{IsPossible, IsSetUpAs, IsTimely, driven_history, events_of, sent_taken};
 ghost use Rattle.ptu_grandmaster.specs.Gm.{StandsFor};
 
@@ -14,7 +13,7 @@ use crate::outcome::Taken;
 use ptu_outside::{Datagram, Port};
 use ptu_profile::GmConfig;
 use ptu_shard::Answered;
-use ptu_units::{Moment, OutOfMemory};
+use ptu_units::{Capacity, Moment, OutOfMemory};
 use std::alloc::Global;
 
 /// What may happen to a grandmaster.
@@ -38,8 +37,7 @@ pub enum GmEvent {
     /// The capacity in force becomes this.
     Capacity {
         t: Moment,
-        /// In sixteenths of a message per second.
-        capacity: u64,
+        capacity: Capacity,
     },
 }
 
@@ -73,6 +71,15 @@ fn handed(t: &Moment) -> Moment
     *t
 }
 
+// The capacity, which is within its limits.
+fn lent(capacity: &Capacity) -> Capacity
+    ensures value { result ≡ capacity.now }
+    ensures range { IsCapacity result }
+{
+    let _sixteenths = capacity.get();
+    *capacity
+}
+
 impl<P: Port> Gm<P> {
     // Takes an event. Gives how many timing messages were sent, and how many of their sends failed.
     fn follow(&mut self, event: &GmEvent) -> Result<(u64, u64), OutOfMemory>
@@ -100,7 +107,7 @@ impl<P: Port> Gm<P> {
                 Ok((0, 0))
             }
             GmEvent::Capacity { t, capacity } => {
-                self.set_capacity(handed(t), *capacity)?;
+                self.set_capacity(handed(t), lent(capacity))?;
                 Ok((0, 0))
             }
         }
@@ -116,7 +123,7 @@ impl<P: Port> Gm<P> {
 pub fn drive<P: Port>(
     alloc: Global,
     config: GmConfig,
-    capacity: u64,
+    capacity: Capacity,
     p0: P,
     p1: P,
     p2: P,
@@ -124,8 +131,6 @@ pub fn drive<P: Port>(
     reply: P,
     events: &[GmEvent],
 ) -> Result<Driven<P>, OutOfMemory>
-    requires limits { IsWithinLimits config }
-    requires capacity { IsCapacity capacity }
     requires possible { All IsPossible events.now }
     ensures stands { IfOk result (λ d.
         StandsFor capacity d.gm (driven_history config capacity events.now)) }
@@ -134,6 +139,7 @@ pub fn drive<P: Port>(
     ensures budget { (x : ℕ) → let history = driven_history config capacity events.now in
         count history x * (16 * 1000000000) ≤ budget capacity history x }
 {
+    let _sixteenths = capacity.get();
     let mut gm = Gm::new(alloc, config, capacity, p0, p1, p2, p3, reply);
     let mut sent = 0;
     for event in events {

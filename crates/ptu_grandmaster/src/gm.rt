@@ -2,8 +2,6 @@
 
 ghost use Rattle.std.specs.{Prelude.{◌≡◌, ◌<◌, ◌≤◌, ℕ, [], List, length}, Borrow.{sem}};
 ghost use Rattle.ptu_history.specs.History.{Record};
-ghost use Rattle.ptu_profile.specs.Grandmaster.{IsWithinLimits};
-ghost use Rattle.ptu_units.specs.Limits.{IsCapacity};
 ghost use Rattle.ptu_shard.specs.Table.{IsIdleUntil};
 ghost use Rattle.ptu_grandmaster.specs.{Gm.{StandsFor, port_at, table_at}, Lends.{LendsPort}};
 
@@ -13,7 +11,7 @@ use ptu_gm_messages::HearingRoom;
 use ptu_outside::Port;
 use ptu_profile::GmConfig;
 use ptu_shard::Shard;
-use ptu_units::Moment;
+use ptu_units::{Capacity, Moment};
 use std::alloc::Global;
 use std::marker::Model;
 
@@ -43,7 +41,6 @@ pub struct Gm<P: Port> {
 
 impl<P: Port> Model for Gm<P> {
     ghost use Rattle.std.specs.Prelude.{◌≡◌};
-    ghost use Rattle.ptu_profile.specs.Grandmaster.{IsWithinLimits};
     ghost use Rattle.ptu_admit.specs.Lent.{four, shares};
     ghost use Rattle.ptu_grandmaster.specs.Gm.{KeptGm};
 
@@ -62,26 +59,22 @@ impl<P: Port> Model for Gm<P> {
       sequence = g.sequence;
     } };
 
-    ghost invariant = { λ g. (g.book.total ≡ shares (four g.s0 g.s1 g.s2 g.s3))
-        × IsWithinLimits g.config };
+    ghost invariant = { λ g. g.book.total ≡ shares (four g.s0 g.s1 g.s2 g.s3) };
 }
 
 impl<P: Port> Gm<P> {
-    /// A grandmaster without grants, of this capacity in sixteenths of a message per second, at
-    /// moment 0. The first four ports are those of its tables, and the last is that of its
+    /// A grandmaster without grants, of this capacity, at moment 0. The first four ports are those of its tables, and the last is that of its
     /// Signaling messages.
     pub fn new(
         alloc: Global,
         config: GmConfig,
-        capacity: u64,
+        capacity: Capacity,
         p0: P,
         p1: P,
         p2: P,
         p3: P,
         reply: P,
     ) -> Gm<P>
-        requires limits { IsWithinLimits config }
-        requires capacity { IsCapacity capacity }
         ensures config { result.config ≡ config }
         ensures ports { (result.s0.port ≡ p0) × (result.s1.port ≡ p1) × (result.s2.port ≡ p2)
             × (result.s3.port ≡ p3) × (result.reply ≡ reply) }

@@ -4,7 +4,6 @@ ghost use Rattle.std.specs.Prelude.{◌≡◌, ◌<◌, ◌+◌, ◌%◌, ℕ, L
 ghost use Rattle.ptu_outside.specs.HandsOver.{HandsOver, failed_in, sent_in};
 ghost use Rattle.ptu_history.specs.{Core.{core_step}, History.{Record}};
 ghost use Rattle.ptu_history.specs.Events as events;
-ghost use Rattle.ptu_units.specs.Limits.{IsCapacity};
 ghost use Rattle.ptu_admit.specs.Lent.{moment_for_all};
 ghost use Rattle.ptu_gm_messages.specs.{Deciding.{opened_with}, Replies.{cancel_to, cancels_to}};
 ghost use Rattle.ptu_grandmaster.specs.{Changed.{AreShedAt, leases_shed}, Gm.{StandsFor, tables}};
@@ -15,7 +14,7 @@ use ptu_gm_messages::cancel_of;
 use ptu_outside::{Channel, Failed, Port, Sends, hand};
 use ptu_profile::GmConfig;
 use ptu_units::sizes::LONGEST_SIGNALING;
-use ptu_units::{Moment, OutOfMemory};
+use ptu_units::{Capacity, Moment, OutOfMemory};
 
 /// What a change of capacity did.
 #[derive(Drop)]
@@ -71,16 +70,14 @@ fn later(sequence: u16, count: u64) -> u16
 }
 
 impl<P: Port> Gm<P> {
-    /// Changes the capacity in force to this many sixteenths of a message per second, at the core's
-    /// moment for `t`. Where the live grants are above it, the newest are shed until the rest fits,
+    /// Changes the capacity in force, at the core's moment for `t`. Where the live grants are above it, the newest are shed until the rest fits,
     /// each with a CANCEL to its client. The CANCELs of a grandmaster are numbered from 0, failed
     /// ones too.
     ///
     /// # Errors
     /// `OutOfMemory`, only where what is reserved is above the new capacity. Nothing has changed
     /// then, and nothing was sent.
-    pub fn set_capacity(&mut self, t: Moment, capacity: u64) -> Result<Changed, OutOfMemory>
-        requires { IsCapacity capacity }
+    pub fn set_capacity(&mut self, t: Moment, capacity: Capacity) -> Result<Changed, OutOfMemory>
         ensures unchanged { OnErr result (self.new ≡ self.old) }
         ensures memory { OnErr result (capacity < self.old.book.total) }
         ensures at { IfOk result (λ c. c.at

@@ -87,7 +87,6 @@ module _ {J B : Type 0} {I : J → Type 0} (see : SlaveNode J I → Seen MemoryP
       address = h.1.address;
       config = h.1.config;
       masters = h.1.masters;
-      limits = h.1.limits;
       distinct = h.1.distinct;
       stands = h.1.stands;
       ruled = h.1.ruled;

@@ -40,7 +40,6 @@ at_port ip kept judges port other begun still s before idle sure h = record {
   address = h.address;
   config = h.config;
   masters = h.masters;
-  limits = h.limits;
   distinct = h.distinct;
   stands = h.stands;
   ruled = h.ruled;

@@ -10,7 +10,7 @@ use Rattle.ptu_record.specs.Tick.{Sending}
 use Rattle.ptu_record.specs.Step.{ReplaceJudge, SlaveEvent, SlaveSetup, judged_masters, sendings, slave_step}
 use Rattle.ptu_judges.specs.Held.{Held, IsFresh, fresh}
 use Rattle.ptu_profile.specs.declared.slave.{Master.{Master}, SlaveConfig.{SlaveConfig}}
-use Rattle.ptu_profile.specs.Slave.{AreMasters, IsWithinLimits, address_of, priorities, timeouts}
+use Rattle.ptu_profile.specs.Slave.{AreMasters, address_of, priorities, timeouts}
 use Rattle.ptu_slave_messages.specs.Node.{Deed, deed, node_setup}
 use Rattle.ptu_slave_messages.specs.Sending.{all_ones, departure_of}
 use Rattle.ptu_slave.specs.{Kept.{IsSame, Kept}, Seen.{Seen}, Standing.{StandsFor, Steps, setup_of}}
@@ -50,7 +50,6 @@ stepped ip old new judges news before after begun s t e deed h ruled within same
     address = h.address;
     config = h.config ∙ sym same.config;
     masters = h.masters ∙ sym same.masters;
-    limits = subst IsWithinLimits (sym same.config) h.limits;
     distinct = subst AreMasters (sym same.masters) h.distinct;
     stands = subst (λ E. StandsFor openings new news (s.taken ++ E)) same_entries (ruled_step openings old new news s.taken t e still below steps);
     ruled = still;

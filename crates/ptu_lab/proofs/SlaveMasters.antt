@@ -9,7 +9,7 @@ use Rattle.ptu_outside.specs.MemoryPort.{IsSure, MemoryPort}
 use Rattle.ptu_record.specs.declared.rule.Rule.{Rule}
 use Rattle.ptu_judges.specs.Held.{Held, IsFresh, fresh}
 use Rattle.ptu_profile.specs.declared.slave.Master.{Master}
-use Rattle.ptu_profile.specs.Slave.{AreMasters, IsWithinLimits, place_of}
+use Rattle.ptu_profile.specs.Slave.{AreMasters, place_of}
 use Rattle.ptu_slave.specs.{Kept.{Kept}, Standing.{StandsFor}}
 use Rattle.ptu_world.specs.{Deeds.{Slave}, World.{with_master}}
 use Rattle.ptu_lab.specs.NodeStanding.{IsSlaveNode}
@@ -72,7 +72,6 @@ one_master_more ip address priority old new judges judge before after s rule h i
   address = h.address;
   config = h.config ∙ sym config;
   masters = ap (λ ms. ms ++ master ∷ []) h.masters ∙ sym masters;
-  limits = subst IsWithinLimits (sym config) h.limits;
   distinct = subst AreMasters (sym masters) (masters_more old.masters master h.distinct few none);
   stands = subst (λ L. StandsFor (s.opened.openings ++ Some rule ∷ []) new (judges ++ judge ∷ []) L) (sym empty)
       (subst (λ os. StandsFor os new (judges ++ judge ∷ []) []) same_rules stands);

@@ -2,7 +2,7 @@
 use Rattle.std.specs.{Prelude.{◌≡◌, ℕ, Bool, false, List, [], IsSome}, List.{AllByRecursion}}
 use Rattle.ptu_outside.specs.MemoryPort.{IsSure, MemoryPort}
 use Rattle.ptu_judges.specs.Held.{Held, IsFresh}
-use Rattle.ptu_profile.specs.Slave.{AreMasters, IsWithinLimits}
+use Rattle.ptu_profile.specs.Slave.{AreMasters}
 use Rattle.ptu_slave.specs.{Kept.{Kept}, Seen.{Seen}}
 use Rattle.ptu_slave.specs.Standing as slave
 use Rattle.ptu_nodes.specs.Standing.{IsIdle}
@@ -16,7 +16,6 @@ pub record IsSlaveNode (ip : ℕ) (kept : Kept) (judges : List Held) (port : Mem
   pub address : s.ip ≡ ip
   pub config : s.opened.config ≡ kept.config
   pub masters : s.opened.masters ≡ kept.masters
-  pub limits : IsWithinLimits kept.config
   pub distinct : AreMasters kept.masters
   pub stands : slave.StandsFor s.opened.openings kept judges s.taken
   pub ruled : AllByRecursion (λ held. IsSome held.rule) judges

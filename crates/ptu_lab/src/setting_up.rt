@@ -1,7 +1,7 @@
 //! The lab's nodes are set up.
 ghost use Rattle.std.specs.Prelude.{◌≡◌, ℕ, [], cond, is_some, nat_eq, Some, None, IfOk};
 ghost use Rattle.std.specs.{Option.{MatchOption}, HashMap.{get}};
-ghost use Rattle.ptu_script.specs.Limits.{IsGrandmasterWithin, IsNamed, IsSlaveWithin};
+ghost use Rattle.ptu_script.specs.Limits.{IsNamed};
 ghost use Rattle.ptu_script.specs.declared.command.Command.TheVariants as commands;
 ghost use Rattle.ptu_world.specs.Report.{Course};
 ghost use Rattle.ptu_lab.specs.declared.lab.Node.TheVariants as described;
@@ -56,7 +56,6 @@ impl Lab {
         &mut self,
         setup: &GrandmasterSetup,
     ) -> Result<Option<Cause>, OutOfMemory>
-        requires limits { IsGrandmasterWithin setup.now }
         ensures made { IfOk result (λ refused. (line : ℕ) → HasObeyed held
             self.old self.new line [] (commands.Grandmaster setup.now) refused) }
         ensures journal { self.new.journal ≡ self.old.journal }
@@ -74,7 +73,6 @@ impl Lab {
     /// # Errors
     /// `OutOfMemory`. The journal is as before, and nothing is said of the nodes: the run ends.
     pub fn set_up_slave(&mut self, setup: &SlaveSetup) -> Result<Option<Cause>, OutOfMemory>
-        requires limits { IsSlaveWithin setup.now }
         ensures made { IfOk result (λ refused. (line : ℕ) → HasObeyed held
             self.old self.new line [] (commands.Slave setup.now) refused) }
         ensures journal { self.new.journal ≡ self.old.journal }

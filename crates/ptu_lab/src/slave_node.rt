@@ -6,11 +6,11 @@ ghost use Rattle.std.specs.Prelude.{map, Option, None, Some, IfOk, OnOk};
 ghost use Rattle.ptu_record.specs.{declared.rule.Rule.{Rule}, Record.{Record}};
 ghost use Rattle.ptu_record.specs.Step.{ReplaceJudge, Stop, TellFlag, Tick};
 ghost use Rattle.ptu_judges.specs.Held.{IsStock, fresh};
-ghost use Rattle.ptu_profile.specs.Slave.{IsWithinLimits, place_of};
+ghost use Rattle.ptu_profile.specs.Slave.{place_of};
 ghost use Rattle.ptu_slave_messages.specs.Node as node;
 ghost use Rattle.ptu_slave_messages.specs.Node.{datagram_heard};
 ghost use Rattle.ptu_slave.specs.{Seen.{seen}, SeenBy.{seen_by}, Standing.{StandsFor, selected_address}};
-ghost use Rattle.ptu_script.specs.Limits.{IsActWithin, IsNamed, IsSlaveWithin};
+ghost use Rattle.ptu_script.specs.Limits.{IsActWithin, IsNamed};
 ghost use Rattle.ptu_world.specs.Deeds.{IsSlave, Slave as Described};
 ghost use Rattle.ptu_world.specs.Slaves.{datagram_deed, plain_deed};
 ghost use Rattle.ptu_world.specs.World.{act_deed, new_slave, of_master, stock_after, stock_without};
@@ -54,7 +54,6 @@ impl SlaveNode {
     /// # Errors
     /// `OutOfMemory` if there is no memory for what the slave keeps.
     pub fn new(alloc: Global, setup: &SlaveSetup) -> Result<SlaveNode, OutOfMemory>
-        requires { IsSlaveWithin setup.now }
         ensures ip { IfOk result (λ n. n.ip ≡ setup.now.ip) }
         ensures stands { IfOk result (λ n. StandsAsNode n.ip
             (seen_by held n.slave) false (new_slave setup.now)) }
@@ -340,14 +339,12 @@ impl SlaveNode {
 
 // What a line sets a slave up with.
 fn config_of(setup: &SlaveSetup) -> SlaveConfig
-    requires { IsSlaveWithin setup.now }
     ensures config { HasConfig (new_slave setup.now) result }
-    ensures limits { IsWithinLimits result }
 {
     SlaveConfig {
         identity: PortIdentity {
             clock: setup.clock,
-            port: setup.port,
+            port: setup.port.get(),
         },
         domain: setup.domain,
         wants: setup.wants,

@@ -2,9 +2,7 @@
 //! send, so no send fails.
 
 ghost use Rattle.std.specs.Prelude.{◌≡◌, ◌<◌, [], IfOk, IfSome, OnOk};
-ghost use Rattle.ptu_profile.specs.Grandmaster.{IsWithinLimits};
-ghost use Rattle.ptu_units.specs.Limits.{IsCapacity};
-ghost use Rattle.ptu_script.specs.Limits.{IsActWithin, IsGrandmasterWithin};
+ghost use Rattle.ptu_script.specs.Limits.{IsActWithin};
 ghost use Rattle.ptu_world.specs.Deeds.{Grandmaster, IsGrandmaster};
 ghost use Rattle.ptu_world.specs.Grandmasters.{capacity_deed, class_deed, datagram_deed, turn_deed};
 ghost use Rattle.ptu_world.specs.World.{act_deed, new_grandmaster};
@@ -22,24 +20,22 @@ use ptu_profile::GmConfig;
 use ptu_report_lines::Statement;
 use ptu_script::{Act, Cause, GrandmasterSetup};
 use ptu_units::sizes::{ANNOUNCE_LENGTH, LONGEST_SIGNALING};
-use ptu_units::{Moment, OutOfMemory};
+use ptu_units::{Capacity, Epoch, Moment, OutOfMemory};
 use std::alloc::Global;
 
 /// The settings of a grandmaster that a line sets up. Its timescale begins at 0.
 pub fn config_of(setup: &GrandmasterSetup) -> GmConfig
-    requires { IsGrandmasterWithin setup.now }
     ensures value { result ≡ standing.config_of setup.now }
-    ensures limits { IsWithinLimits result }
 {
     GmConfig {
         identity: PortIdentity {
             clock: setup.clock,
-            port: setup.port,
+            port: setup.port.get(),
         },
         domain: setup.domain,
         class: setup.class,
         max_duration: setup.max_duration,
-        epoch: 0,
+        epoch: Epoch::DEFAULT,
     }
 }
 
@@ -55,7 +51,6 @@ pub struct GrandmasterNode {
 impl GrandmasterNode {
     /// The grandmaster that a line sets up. Its timescale begins at 0.
     pub fn new(alloc: Global, setup: &GrandmasterSetup) -> GrandmasterNode
-        requires { IsGrandmasterWithin setup.now }
         ensures ip { result.ip ≡ setup.now.ip }
         ensures stands { StandsAsGrandmaster result (new_grandmaster setup.now) }
     {
@@ -172,8 +167,7 @@ impl GrandmasterNode {
         hand_over_all(&mut self.gm, self.ip, journal)
     }
 
-    /// Its capacity changes to this many sixteenths of a message per second; this, what is shed and
-    /// what is sent is noted.
+    /// Its capacity changes; this, what is shed and what is sent is noted.
     ///
     /// # Errors
     /// `OutOfMemory`. The address stays, and nothing else is said of the node and the journal: the
@@ -181,11 +175,10 @@ impl GrandmasterNode {
     pub fn set_capacity(
         &mut self,
         at: Moment,
-        capacity: u64,
+        capacity: Capacity,
         journal: &mut Journal,
     ) -> Result<(), OutOfMemory>
         requires means { (g : Grandmaster) × IsGrandmasterNode self.old g }
-        requires capacity { IsCapacity capacity }
         ensures ip { self.new.ip ≡ self.old.ip }
         ensures done { OnOk result ((g : Grandmaster) → IsGrandmasterNode self.old g →
             HasDone (StandsAsGrandmaster self.new) self.old.ip (capacity_deed g at capacity)
@@ -197,7 +190,7 @@ impl GrandmasterNode {
         let changed = self.gm.set_capacity(at, capacity)?;
         journal.say(Statement::Capacity {
             grandmaster: self.ip,
-            capacity,
+            capacity: capacity.get(),
             at: changed.at,
         })?;
         say_shed(changed.shed.list(), journal)?;

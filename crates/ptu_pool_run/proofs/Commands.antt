@@ -2,10 +2,8 @@
 use Rattle.std.proofs.Common.{◌≡◌, ◌∙◌, ℕ, ◌-◌, ◌<◌, ◌≤◌, All, true, false, cond, List, [], ◌∷◌, ◌++◌, length, map, Option, Some, None, IfSome, refl, sym, ap, subst, arith}
 use Rattle.std.proofs.lemmas.{Bool.{le-leb, lt-leb}, List.{map-append}}
 use Rattle.ptu_outside.specs.MemoryPort.{MemoryPort}
-use Rattle.ptu_units.specs.Limits.{IsCapacity}
 use Rattle.ptu_report.specs.Rules.{IsOutcome, Outcome, Refuses}
 use Rattle.ptu_script.specs.declared.command.GrandmasterSetup.{GrandmasterSetup}
-use Rattle.ptu_script.specs.Limits.{IsGrandmasterWithin}
 use Rattle.ptu_pools.specs.{declared.pool.Pool.{Pool}, Events.{PoolEvent, Turned}, Refusal.{Share}}
 use Rattle.ptu_pools.specs.Standing.{KeptPools}
 use Rattle.ptu_pool_run.specs.declared.cause.PoolCause.{PoolCause}
@@ -22,11 +20,11 @@ pub set_up_again : (told : Told) (setup before : GrandmasterSetup) (p after : Po
     IsOutcome (set_up told setup told.setup) (StandsFor after) [] (Some Order)
 set_up_again told setup before p after s is = subst (λ o. IsOutcome (set_up told setup o) (StandsFor after) [] (Some Order)) (sym (s.setup ∙ is)) refl
 
-pub set_up_once : (told : Told) (setup : GrandmasterSetup) (p : Pouring) → IsGrandmasterWithin setup → StandsFor p told → p.setup ≡ None →
+pub set_up_once : (told : Told) (setup : GrandmasterSetup) (p : Pouring) → StandsFor p told → p.setup ≡ None →
     IsOutcome (set_up told setup told.setup) (StandsFor (record p { setup = Some setup })) [] None
-set_up_once told setup p within s none =
+set_up_once told setup p s none =
     subst (λ o. IsOutcome (set_up told setup o) (StandsFor (record p { setup = Some setup })) [] None) (sym (s.setup ∙ none))
-    (record { setup = refl; limits = within; begun = s.begun; sold = by p.setup p.pools none s.sold }, refl)
+    (record { setup = refl; begun = s.begun; sold = by p.setup p.pools none s.sold }, refl)
   where
     by : (o : Option GrandmasterSetup) (k : Option (KeptPools MemoryPort)) → o ≡ None → HaveSold o k told → HaveSold (Some setup) k (record told { setup = Some setup })
     by None None e h = h
@@ -51,16 +49,6 @@ share_of p told setup s is = by p.pools (subst (λ o. HaveSold o p.pools told) i
     by : (k : Option (KeptPools MemoryPort)) → HaveSold (Some setup) k told → Share setup.capacity (pools_of k)
     by None h = none_share setup.capacity
     by (Some kept) h = h.1.share
-
-pub capacities_of : (p : Pouring) (told : Told) (setup : GrandmasterSetup) → StandsFor p told → p.setup ≡ Some setup → All (λ (pool : Pool). IsCapacity pool.capacity) (pools_of p.pools)
-capacities_of p told setup s is = by p.pools (subst (λ o. HaveSold o p.pools told) is s.sold)
-  where
-    by : (k : Option (KeptPools MemoryPort)) → HaveSold (Some setup) k told → All (λ (pool : Pool). IsCapacity pool.capacity) (pools_of k)
-    by None h = λ i d lt. absurd (omega (arith, lt))
-    by (Some kept) h = h.1.capacities
-
-pub limits_of : (p : Pouring) (told : Told) (setup : GrandmasterSetup) → StandsFor p told → p.setup ≡ Some setup → IsGrandmasterWithin setup
-limits_of p told setup s is = subst (λ o. IfSome o IsGrandmasterWithin) is s.limits
 
 pub sold_unset : (told : Told) (pool : Pool) (p after : Pouring) → StandsFor p told → p.setup ≡ None →
     IsOutcome (sold told pool told.setup told.events) (StandsFor after) [] (Some Order)
@@ -101,7 +89,6 @@ module _ (told : Told) (pool : Pool) (setup : GrandmasterSetup) (p : Pouring) (s
       subst (λ o. IsOutcome o (StandsFor (record p { pools = Some kept })) [] None) (sym (outcome_is ∙ ap (sold_by told pool) e)) (
         record {
           setup = s.setup;
-          limits = s.limits;
           begun = s.begun;
           sold = subst (λ o. HaveSold o (Some kept) (record told { pools = told.pools ++ pool ∷ [] })) (sym is)
               (ap (λ l. l ++ pool ∷ []) (sold_are p told s) ∙ sym pools_are, subst (λ (l : List At). AreSold setup kept (events_of l)) (sym no_events) are_sold);
@@ -154,7 +141,6 @@ module _ (told : Told) (p : Pouring) (kept : KeptPools MemoryPort) (s : StandsFo
   happened_so line event kept' texts' has = (
     record {
       setup = s.setup;
-      limits = s.limits;
       begun = sym (has_more told.events (line, event));
       sold = subst (λ o. HaveSold o (Some kept') (record told { events = told.events ++ (line, event) ∷ [] })) (sym h.is)
           (h.pools ∙ sym has.pools, subst (AreSold h.setup kept') (sym (map-append (λ (at : At). at.1) told.events ((line, event) ∷ []))) has.sold);

@@ -11,7 +11,6 @@ use Rattle.ptu_grandmaster.specs.{declared.outcome.Taken.{Taken}, Gm.{KeptGm, St
 use Rattle.ptu_pools.specs.{declared.pool.Pool.{Pool}, Changes.{TookDatagram, TookTurn}}
 use Rattle.ptu_pools.specs.{Events.{PoolEvent, Came, Turned}, Pool.{AreApart, is_in, is_in_at}}
 use Rattle.ptu_pools.specs.Refusal.{Share}
-use Rattle.ptu_units.specs.Limits.{IsCapacity}
 use Rattle.ptu_pools.specs.Standing.{ChangesOne, KeptPools, StandFor}
 use Rattle.ptu_pools.proofs.Places.{found_in, none_in, one_place}
 use Rattle.ptu_pools.proofs.Standing.{get-set_other, get-set_same}
@@ -108,7 +107,6 @@ module _ (setup : GrandmasterSetup) (line : ℕ) (events : List PoolEvent) (kept
   sold_after event kept same stand none all_sure = record {
     some = subst (λ (l : List Pool). 1 ≤ length l) (sym same) sold.some;
     share = subst (λ (l : List Pool). Share setup.capacity l) (sym same) sold.share;
-    capacities = subst (λ (l : List Pool). All (λ pool. IsCapacity pool.capacity) l) (sym same) sold.capacities;
     stand = stand;
     idle = none;
     sure = all_sure;

@@ -1,9 +1,8 @@
 -- Pools that were just sold.
 use Rattle.std.proofs.Common.{◌≡◌, ℕ, zero, suc, ◌≤◌, List, [], ◌∷◌, ◌++◌, length, slice_get, Some, sym, subst, arith, length-append}
 use Rattle.std.specs.List.{All, AllByRecursion}
-use Rattle.std.proofs.lemmas.List.Elements.{All-push, recursion_from_All}
+use Rattle.std.proofs.lemmas.List.Elements.{recursion_from_All}
 use Rattle.ptu_outside.specs.MemoryPort.{MemoryPort}
-use Rattle.ptu_units.specs.Limits.{IsCapacity}
 use Rattle.ptu_grandmaster.specs.Gm.{KeptGm}
 use Rattle.ptu_script.specs.declared.command.GrandmasterSetup.{GrandmasterSetup}
 use Rattle.ptu_pools.specs.{declared.pool.Pool.{Pool}, Refusal.{Share}}
@@ -22,13 +21,12 @@ sure_by (g ∷ gms) (e0, (e1, (e2, (e3, (e4, rest))))) zero gm is = let same : g
 sure_by (g ∷ gms) (e0, (e1, (e2, (e3, (e4, rest))))) (suc i) gm is = sure_by gms rest i gm is
 
 pub sold_fresh : (setup : GrandmasterSetup) (before : List Pool) (pool : Pool) (kept : KeptPools MemoryPort) (ports : List MemoryPort) →
-    Share setup.capacity (before ++ pool ∷ []) → All (λ (other : Pool). IsCapacity other.capacity) before → IsCapacity pool.capacity →
+    Share setup.capacity (before ++ pool ∷ []) →
     kept.pools ≡ before ++ pool ∷ [] → ports_of_all kept.gms ≡ ports → All (λ (port : MemoryPort). port.sent ≡ []) ports → All (λ (port : MemoryPort). port.failing_sends ≡ []) ports → StandFor (config_of setup) kept [] →
     AreSold setup kept []
-sold_fresh setup before pool kept ports share capacities capacity pools_are ports_are idle sure stand = record {
+sold_fresh setup before pool kept ports share pools_are ports_are idle sure stand = record {
   some = subst (λ (l : List Pool). 1 ≤ length l) (sym pools_are) (omega (arith, length-append before (pool ∷ [])));
   share = subst (Share setup.capacity) (sym pools_are) share;
-  capacities = subst (All (λ (other : Pool). IsCapacity other.capacity)) (sym pools_are) (All-push (λ (other : Pool). IsCapacity other.capacity) before pool capacities capacity);
   stand = stand;
   idle = idle_by kept.gms (recursion_from_All IsIdle (ports_of_all kept.gms) (subst (All (λ (port : MemoryPort). port.sent ≡ [])) (sym ports_are) idle));
   sure = sure_by kept.gms (recursion_from_All IsUnfailing (ports_of_all kept.gms) (subst (All (λ (port : MemoryPort). port.failing_sends ≡ [])) (sym ports_are) sure));

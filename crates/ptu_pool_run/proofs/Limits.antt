@@ -3,12 +3,12 @@ use Rattle.std.proofs.Common.{ℕ, ◌+◌, ◌-◌, Bool, true, false, cond, eq
 use Rattle.std.proofs.lemmas.List.Elements.{All-append, All-cons, All-nil}
 use Rattle.ptu_lines.specs.Script.{ScriptLine, Whole, Refused}
 use Rattle.ptu_lines.specs.Words.{ip_of, octets_of, words_of}
-use Rattle.ptu_units.specs.Limits.{IsCapacity}
+use Rattle.ptu_units.specs.Limits.{IsCapacity, greatest_capacity, least_capacity}
 use Rattle.ptu_report.specs.Rules.{Goes, Outcome, Refuses}
 use Rattle.ptu_script.specs.declared.cause.{Cause.{Cause}, Cause.TheVariants.{Count}}
 use Rattle.ptu_script.specs.declared.command.GrandmasterSetup.{GrandmasterSetup}
 use Rattle.ptu_script.specs.Command.{grandmaster_in, is_comment, moment_of}
-use Rattle.ptu_script.specs.{Fields.{◌>>=◌, field, from_to}, Limits.{IsGrandmasterWithin}}
+use Rattle.ptu_script.specs.{Fields.{◌>>=◌, capacity_of, field, from_to}, Limits.{IsGrandmasterWithin}}
 use Rattle.ptu_world.proofs.Limits.{grandmaster_within, number_is, ok_bound, ok_either}
 use Rattle.ptu_pools.specs.{declared.pool.Pool.{Pool}, Events.{Turned}}
 use Rattle.ptu_pool_run.specs.declared.cause.{PoolCause.{PoolCause}, PoolCause.TheVariants.{Number}}
@@ -35,8 +35,8 @@ fields_lawful verbs.Gm line = by (grandmaster_in line) (grandmaster_within line)
     by : (r : Result GrandmasterSetup Cause) → IfOk r IsGrandmasterWithin → IfOk (r >>= λ setup. Ok (commands.Grandmaster setup)) IsLawful
     by (Ok setup) h = h
     by (Err cause) h = tt
-fields_lawful verbs.Pool line = ok_bound IsLawful (field 2 ip_of line) _ (λ net _. ok_bound IsLawful (field 3 (from_to 0 32) line) _ (λ bits _. ok_bound IsLawful (field 4 (from_to 1 16777216) line) _
-    (λ capacity e. number_is 1 16777216 4 capacity line e)))
+fields_lawful verbs.Pool line = ok_bound IsLawful (field 2 ip_of line) _ (λ net _. ok_bound IsLawful (field 3 (from_to 0 32) line) _ (λ bits _. ok_bound IsLawful (field 4 capacity_of line) _
+    (λ capacity e. number_is least_capacity greatest_capacity 4 capacity line e)))
 fields_lawful verbs.Rx line = ok_bound IsLawful (field 2 moment_of line) _ (λ t _. ok_bound IsLawful (field 3 ip_of line) _ (λ from _. ok_bound IsLawful (field 4 octets_of line) _ (λ octets _. tt)))
 fields_lawful verbs.Turn line = ok_bound IsLawful (field 2 moment_of line) _ (λ t _. ok_bound IsLawful (field 3 (from_to 1 16) line) _ (λ number _. ok_bound IsLawful (field 4 (from_to 0 3) line) _ (λ table _. tt)))
 

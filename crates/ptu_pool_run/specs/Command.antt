@@ -2,7 +2,7 @@
 use Rattle.std.specs.Prelude.{◌≡◌, ℕ, ◌==◌, if◌then◌else◌, List, [], length, Option, Some, None, Result, Ok, Err, unwrap_or}
 use Rattle.ptu_lines.specs.Words.{words_of, word_of, ip_of, octets_of}
 use Rattle.ptu_script.specs.declared.cause.{Cause.{Cause}, Cause.TheVariants.{Word, Count}}
-use Rattle.ptu_script.specs.Fields.{◌>>=◌, field, from_to}
+use Rattle.ptu_script.specs.Fields.{◌>>=◌, capacity_of, field, from_to}
 use Rattle.ptu_script.specs.Command.{grandmaster_in, is_comment, moment_of}
 use Rattle.ptu_pool_run.specs.declared.command.PoolCommand.{PoolCommand}
 use Rattle.ptu_pool_run.specs.declared.command.PoolCommand.TheVariants as commands
@@ -25,7 +25,7 @@ fields_in Gm line = do
 fields_in Pool line = do
   net ← field 2 ip_of line
   bits ← field 3 (from_to 0 32) line
-  capacity ← field 4 (from_to 1 16777216) line
+  capacity ← field 4 capacity_of line
   Ok (commands.Sell (record { net = net; bits = bits; capacity = capacity }))
 fields_in Rx line = do
   at ← field 2 moment_of line

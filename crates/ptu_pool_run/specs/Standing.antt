@@ -1,11 +1,9 @@
 -- What the value that the program keeps stands for.
 use Rattle.std.specs.Prelude.{◌≡◌, ◌≤◌, ℕ, List, [], ◌∷◌, ◌++◌, length, map, All, Bool, true, false, Option, Some, None, IfSome}
 use Rattle.ptu_outside.specs.MemoryPort.{MemoryPort}
-use Rattle.ptu_units.specs.Limits.{IsCapacity}
 use Rattle.ptu_pools.specs.{declared.pool.Pool.{Pool}, Events.{PoolEvent}, Refusal.{Share}}
 use Rattle.ptu_pools.specs.Standing.{KeptPools, StandFor}
 use Rattle.ptu_script.specs.declared.command.GrandmasterSetup.{GrandmasterSetup}
-use Rattle.ptu_script.specs.Limits.{IsGrandmasterWithin}
 use Rattle.ptu_nodes.specs.Standing.{config_of}
 use Rattle.ptu_pool_run.specs.{declared.pouring.Pouring.{Pouring}, Reading.{At, Told, events_of}}
 use Rattle.ptu_pool_run.specs.{Output.{line_text}, Sending.{lines_of_event}}
@@ -25,7 +23,6 @@ pools_of (Some kept) = kept.pools
 pub record AreSold (setup : GrandmasterSetup) (kept : KeptPools MemoryPort) (events : List PoolEvent) : Type 0 where
   pub some : 1 ≤ length kept.pools
   pub share : Share setup.capacity kept.pools
-  pub capacities : All (λ pool. IsCapacity pool.capacity) kept.pools
   pub stand : StandFor (config_of setup) kept events
   pub idle : AreAllIdle kept
   pub sure : AreAllSure kept
@@ -45,6 +42,5 @@ HaveSold (Some setup) (Some kept) told = (told.pools ≡ kept.pools) × AreSold 
 
 pub record StandsFor (pouring : Pouring) (told : Told) : Type 0 where
   pub setup : told.setup ≡ pouring.setup
-  pub limits : IfSome pouring.setup IsGrandmasterWithin
   pub begun : pouring.has_begun ≡ has_events told.events
   pub sold : HaveSold pouring.setup pouring.pools told

@@ -1,10 +1,8 @@
 //! What the lines of a script so far have made of a grandmaster and its pools.
 
 ghost use Rattle.std.specs.Prelude.{◌≡◌, ◌<◌, ◌≤◌, [], IfOk};
-ghost use Rattle.ptu_units.specs.Limits.{IsCapacity};
 ghost use Rattle.ptu_pools.specs.Events.{Came};
 ghost use Rattle.ptu_report.specs.Rules.{IsOutcome};
-ghost use Rattle.ptu_script.specs.Limits.{IsGrandmasterWithin};
 ghost use Rattle.ptu_pool_run.specs.Limits.{IsWithinLimits};
 ghost use Rattle.ptu_pool_run.specs.Reading.{Told, behind_pools, happened, opening, set_up, sold};
 ghost use Rattle.ptu_pool_run.specs.{Reading.{step, turned}, Standing.{StandsFor, pools_of}};
@@ -74,7 +72,6 @@ impl Pouring {
 
     // The grandmaster is set up, once.
     fn set_up(&mut self, setup: GrandmasterSetup) -> Option<PoolCause>
-        requires { IsGrandmasterWithin setup }
         ensures { (told : Told) → StandsFor self.old told →
             IsOutcome (set_up told setup told.setup) (StandsFor self.new) [] result }
     {
@@ -97,8 +94,7 @@ impl Pouring {
 
     // A pool is sold.
     fn sell(&mut self, alloc: Global, pool: Pool) -> Stepped
-        requires means { (told : Told) × StandsFor self.old told }
-        requires capacity { IsCapacity pool.capacity }
+        requires { (told : Told) × StandsFor self.old told }
         ensures { IfOk result (λ refused. (told : Told) → StandsFor self.old told →
             IsOutcome (sold told pool told.setup told.events) (StandsFor self.new) [] refused) }
     {

@@ -11,7 +11,9 @@ use crate::verb::PoolVerb;
 use ptu_lines::WordList;
 use ptu_pools::Pool;
 use ptu_script::Cause;
-use ptu_script::fields::{ip_field, moment_field, number_field, octets_field};
+use ptu_script::fields::{
+    bits_field, capacity_field, ip_field, moment_field, number_field, octets_field,
+};
 use ptu_script::setups::grandmaster;
 use ptu_units::Moment;
 use ptu_units::sizes::LONGEST_DATAGRAM;
@@ -32,11 +34,11 @@ fn pool<'a>(line: &WordList) -> Result<PoolCommand<'a>, Cause>
     ensures within { IfOk result IsWithinLimits }
 {
     let net = ip_field(line, 2)?;
-    let bits = number_field(line, 3, 0, 32)?;
-    let capacity = number_field(line, 4, 1, 16_777_216)?;
+    let bits = bits_field(line, 3)?;
+    let capacity = capacity_field(line, 4)?;
     Ok(PoolCommand::Sell(Pool {
         net,
-        bits: bits as u8,
+        bits,
         capacity,
     }))
 }

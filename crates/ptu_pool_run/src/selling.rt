@@ -1,9 +1,7 @@
 //! Pools are sold one after the other.
 
 ghost use Rattle.std.specs.Prelude.{◌≡◌, ◌++◌, ◌∷◌, [], All, IfErr, IfOk, None, Some, length};
-ghost use Rattle.ptu_units.specs.Limits.{IsCapacity};
 ghost use Rattle.ptu_pools.specs.Refusal.{Share};
-ghost use Rattle.ptu_script.specs.Limits.{IsGrandmasterWithin};
 ghost use Rattle.ptu_pool_run.specs.{Selling.{refusal_of}, Standing.{AreSold}};
 
 use crate::cause::PoolCause;
@@ -51,10 +49,7 @@ pub fn sell(
     before: &[Pool],
     pool: Pool,
 ) -> Result<Result<Pools<MemPort>, PoolCause>, OutOfMemory>
-    requires limits { IsGrandmasterWithin setup.now }
-    requires capacity { IsCapacity pool.capacity }
-    requires share { Share setup.now.capacity before.now }
-    requires capacities { All (λ other. IsCapacity other.capacity) before.now }
+    requires { Share setup.now.capacity before.now }
     ensures refused { IfOk result (λ sold. IfErr sold
         (λ cause. refusal_of setup.now.capacity before.now pool ≡ Some cause)) }
     ensures none { IfOk result (λ sold. IfOk sold
@@ -71,7 +66,7 @@ pub fn sell(
     }
     let all = with_pool(alloc, before, pool)?;
     let ports = idle_ports(alloc, 5 * all.len())?;
-    match Pools::new(alloc, config_of(setup), setup.capacity, &all, ports) {
+    match Pools::new(alloc, config_of(setup), setup.capacity.get(), &all, ports) {
         Ok(pools) => Ok(Ok(pools)),
         Err(PoolsFault::Net { .. }) => Ok(Err(PoolCause::Net)),
         Err(PoolsFault::Overlap { .. }) => Ok(Err(PoolCause::Overlap)),

@@ -1,5 +1,4 @@
 pub mod Apart
-mod Sums
 pub mod Places
 pub mod Standing
 mod Ported

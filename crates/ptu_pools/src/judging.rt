@@ -1,10 +1,9 @@
 //! Pools are judged before any grandmaster is made.
 
-ghost use Rattle.std.specs.Prelude.{◌≡◌, ◌≤◌, All, length, OnOk, IfErr, MatchOption};
+ghost use Rattle.std.specs.Prelude.{◌≡◌, ◌≤◌, length, OnOk, IfErr, MatchOption};
 ghost use Rattle.std.specs.List.{position};
 ghost use Rattle.ptu_pools.specs.Pool.{AreApart, meets};
 ghost use Rattle.ptu_pools.specs.Refusal.{IsFirstOverlap, IsRefused, Share, capacities, first_wrong};
-ghost use Rattle.ptu_units.specs.Limits.{IsCapacity};
 
 use crate::fault::PoolsFault;
 use crate::pool::Pool;
@@ -38,21 +37,19 @@ fn overlap(pools: &[Pool]) -> Option<(usize, usize)>
 
 // The sum of the capacities.
 fn total(pools: &[Pool]) -> u64
-    requires few { length pools.now ≤ 16 }
-    requires capacities { All (λ pool. IsCapacity pool.capacity) pools.now }
+    requires { length pools.now ≤ 16 }
     ensures { result ≡ capacities pools.now }
 {
     let mut sum = 0;
     for pool in pools {
-        sum += pool.capacity;
+        sum += pool.capacity.get();
     }
     sum
 }
 
 // The pools share this capacity, or the first cause why they do not.
 pub(crate) fn judge(capacity: u64, pools: &[Pool]) -> Result<(), PoolsFault>
-    requires few { length pools.now ≤ 16 }
-    requires capacities { All (λ pool. IsCapacity pool.capacity) pools.now }
+    requires { length pools.now ≤ 16 }
     ensures share { OnOk result (Share capacity pools.now) }
     ensures refused { IfErr result (λ fault. IsRefused capacity pools.now fault) }
 {

@@ -1,9 +1,7 @@
 //! Pools are made with five ports each.
 
-ghost use Rattle.std.specs.Prelude.{◌≡◌, ◌<◌, ◌≤◌, ◌*◌, ◌∷◌, [], All, length, IfOk, MatchOption};
+ghost use Rattle.std.specs.Prelude.{◌≡◌, ◌<◌, ◌≤◌, ◌*◌, ◌∷◌, [], length, IfOk, MatchOption};
 ghost use Rattle.std.specs.Vec.Iter.{into_iter_items};
-ghost use Rattle.ptu_profile.specs.Grandmaster.{IsWithinLimits};
-ghost use Rattle.ptu_units.specs.Limits.{IsCapacity};
 ghost use Rattle.ptu_pools.specs.{Making.{AreFresh}, Standing.{ports_of_all}};
 
 use crate::pool::Pool;
@@ -31,22 +29,20 @@ fn next_five<P: Port>(ports: &mut IntoIter<P>) -> Option<(P, P, P, P, P)>
 // A grandmaster for each pool, in order.
 pub(crate) fn grandmasters<P: Port>(
     alloc: Global,
-    config: GmConfig,
+    config: &GmConfig,
     pools: &[Pool],
     ports: Vec<P>,
 ) -> Result<Vec<Gm<P>>, OutOfMemory>
-    requires limits { IsWithinLimits config }
-    requires capacities { All (λ pool. IsCapacity pool.capacity) pools.now }
-    requires ports { length ports.items ≡ 5 * length pools.now }
+    requires { length ports.items ≡ 5 * length pools.now }
     ensures each { IfOk result (λ gms. length gms.items ≡ length pools.now) }
     ensures ports { IfOk result (λ gms. ports_of_all gms.items ≡ ports.items) }
-    ensures fresh { IfOk result (λ gms. AreFresh config pools.now gms.items) }
+    ensures fresh { IfOk result (λ gms. AreFresh config.now pools.now gms.items) }
 {
     let mut gms = Vec::with_capacity(alloc, pools.len())?;
     let mut rest = ports.into_iter();
     for pool in pools {
         let (p0, p1, p2, p3, reply) = next_five(&mut rest).unwrap();
-        gms.push(Gm::new(alloc, config, pool.capacity, p0, p1, p2, p3, reply))?;
+        gms.push(Gm::new(alloc, *config, pool.capacity, p0, p1, p2, p3, reply))?;
     }
     Ok(gms)
 }

@@ -4,6 +4,8 @@
 ghost use Rattle.std.specs.Prelude.{◌≡◌, ◌-◌};
 ghost use Rattle.ptu_pools.specs.Pool.{is_in, is_network, meets};
 
+use ptu_units::Capacity;
+
 /// A customer's pool of IPv4 addresses, and the capacity that it is sold.
 #[derive(Clone, Copy)]
 pub struct Pool {
@@ -11,8 +13,8 @@ pub struct Pool {
     pub net: u32,
     /// An address is in the pool where so many of its first bits are those of `net`, from 0 to 32.
     pub bits: u8,
-    /// Its capacity in sixteenths of a message per second, from 1 to 16777216.
-    pub capacity: u64,
+    /// Its capacity.
+    pub capacity: Capacity,
 }
 
 impl Pool {

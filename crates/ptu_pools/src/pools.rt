@@ -1,11 +1,9 @@
 //! Pools: a grandmaster for each, beside one another.
 
-ghost use Rattle.std.specs.Prelude.{◌≡◌, ◌<◌, ◌≤◌, ◌*◌, ◌∷◌, [], ◌++◌, ℕ, List, All, length, Option, Some, slice_get, option_map, IfOk, IfErr, IfSome, OnOk, OnErr, IsTrue};
+ghost use Rattle.std.specs.Prelude.{◌≡◌, ◌<◌, ◌≤◌, ◌*◌, ◌∷◌, [], ◌++◌, ℕ, List, length, Option, Some, slice_get, option_map, IfOk, IfErr, IfSome, OnOk, OnErr, IsTrue};
 ghost use Rattle.std.specs.{Borrow.{sem}, List.{position}};
 ghost use Rattle.ptu_messages.specs.MessageFault.{IsSignaling};
 ghost use Rattle.ptu_profile.specs.declared.grandmaster.GmConfig.{GmConfig};
-ghost use Rattle.ptu_profile.specs.Grandmaster.{IsWithinLimits};
-ghost use Rattle.ptu_units.specs.Limits.{IsCapacity};
 ghost use Rattle.ptu_grandmaster.specs.Gm.{IsUnchanged, port_at, table_at};
 ghost use Rattle.ptu_pools.specs.{Pool.{is_in, is_in_at}, Refusal.{IsRefused, Share}};
 ghost use Rattle.ptu_pools.specs.Events.{PoolEvent, Came, Turned as TurnedEvent};
@@ -76,10 +74,8 @@ impl<P: Port> Pools<P> {
         pools: &[Pool],
         ports: Vec<P>,
     ) -> Result<Pools<P>, PoolsFault>
-        requires limits { IsWithinLimits config }
         requires some { 1 ≤ length pools.now }
         requires few { length pools.now ≤ 16 }
-        requires capacities { All (λ pool. IsCapacity pool.capacity) pools.now }
         requires ports { length ports.items ≡ 5 * length pools.now }
         ensures share { OnOk result (Share capacity pools.now) }
         ensures refused { IfErr result (λ fault. IsRefused capacity pools.now fault) }
@@ -88,7 +84,7 @@ impl<P: Port> Pools<P> {
         ensures stands { IfOk result (λ made. StandFor config made []) }
     {
         judge(capacity, pools)?;
-        let gms = grandmasters(alloc, config, pools, ports)?;
+        let gms = grandmasters(alloc, &config, pools, ports)?;
         Ok(Pools::assembled(alloc, capacity, &config, pools, gms)?)
     }
 

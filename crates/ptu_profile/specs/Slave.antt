@@ -1,22 +1,10 @@
--- What a slave is set up with, its limits (the project's own choice), and its masters.
+-- What a slave is set up with, and its masters.
 use Rattle.std.specs.Prelude.{◌≢◌, ℕ, ◌≤◌, List, length, map, slice_index, position, Option, ◌==◌, pos}
 use Rattle.std.specs.List.{AllPairs}
-use Rattle.ptu_units.specs.{declared.kind.Kind.TheVariants.{Announce}, Log.{IsLogOf}}
 use Rattle.ptu_record.specs.{SignalFails.{Timeouts}, Wants.{timeouts_of}}
 use Rattle.ptu_header.specs.declared.header.Header.{Header}
 use Rattle.ptu_profile.specs.Headers.{unicast_header}
-use Rattle.ptu_units.specs.Limits.{IsDomain, IsTimeout, IsWait}
 use Rattle.ptu_profile.specs.declared.slave.{Master.{Master}, SlaveConfig.{SlaveConfig}}
-
--- each value is within its limits
-pub record IsWithinLimits (config : SlaveConfig) : Type 0 where
-  pub domain : IsDomain config.domain
-  pub announce : IsLogOf Announce config.wants.announce
-  pub duration : 60 ≤ config.wants.seconds
-  pub announce_timeout : IsTimeout config.announce_timeout
-  pub sync_timeout : IsTimeout config.sync_timeout
-  pub delay_timeout : IsTimeout config.delay_timeout
-  pub wait : IsWait config.wait
 
 -- at most 16 masters, no two of one address
 pub record AreMasters (masters : List Master) : Type 0 where

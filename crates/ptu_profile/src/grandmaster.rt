@@ -4,25 +4,35 @@ ghost use Rattle.std.specs.Prelude.{◌≡◌};
 
 use crate::headers::header_from;
 use ptu_header::{Header, PortIdentity};
+use ptu_units::{Domain, Epoch, GrantSeconds};
 
-/// What a grandmaster is set up with. Calls that take it ask that its values are within their
-/// limits.
+/// What a grandmaster is set up with. The types of its fields keep them within their limits.
 #[derive(Clone, Copy)]
 pub struct GmConfig {
     /// Its own port identity, which its messages have as sourcePortIdentity.
     pub identity: PortIdentity,
-    /// Its domainNumber, from 4 to 23.
-    pub domain: u8,
+    /// Its domainNumber.
+    pub domain: Domain,
     /// The clockClass of its Announces as it stands.
     pub class: u8,
-    /// The longest duration that it grants, from 60 to 1000 seconds.
-    pub max_duration: u32,
-    /// The seconds of its timescale at moment zero, below 2^47.
-    pub epoch: u64,
+    /// The longest duration that it grants.
+    pub max_duration: GrantSeconds,
+    /// The seconds of its timescale at moment zero.
+    pub epoch: Epoch,
 }
 
 impl GmConfig {
-    ghost use Rattle.ptu_profile.specs.Grandmaster.{header_of};
+    ghost use Rattle.ptu_profile.specs.Grandmaster.{IsWithinLimits, header_of};
+
+    /// Does nothing. What it ensures are the limits that the types of the fields keep, for a caller
+    /// whose own clauses speak of them.
+    pub fn keep_limits(&self)
+        ensures { IsWithinLimits self.now }
+    {
+        let _domain = self.domain.get();
+        let _max_duration = self.max_duration.get();
+        let _epoch = self.epoch.get();
+    }
 
     /// The header of a message of this type, with this correctionField, in nanoseconds multiplied
     /// by 2^16, and this sequenceId.

@@ -4,12 +4,13 @@ ghost use Rattle.std.specs.Prelude.{◌≡◌};
 ghost use Rattle.ptu_profile.specs.Headers.{unicast_header};
 
 use ptu_header::{Header, PortIdentity, flags};
+use ptu_units::Domain;
 
 /// The header of a message of this type that a port of a domain sends to one address: the
 /// unicastFlag alone of the flags.
 pub(crate) fn header_from(
     source: PortIdentity,
-    domain: u8,
+    domain: Domain,
     message_type: u8,
     correction: i64,
     sequence: u16,
@@ -18,7 +19,7 @@ pub(crate) fn header_from(
 {
     Header {
         message_type,
-        domain,
+        domain: domain.get(),
         flags: flags::UNICAST,
         correction,
         source,

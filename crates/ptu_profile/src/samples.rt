@@ -2,6 +2,7 @@
 
 use crate::GmConfig;
 use ptu_header::PortIdentity;
+use ptu_units::{Domain, Epoch, GrantSeconds};
 
 /// A grandmaster's fields: domain 4, clockClass 84, and grants of at most 300 s.
 pub const CONFIG: GmConfig = GmConfig {
@@ -9,8 +10,8 @@ pub const CONFIG: GmConfig = GmConfig {
         clock: 0x0a00_0000_0000_0001,
         port: 1,
     },
-    domain: 4,
+    domain: Domain::DEFAULT,
     class: 84,
-    max_duration: 300,
-    epoch: 0,
+    max_duration: GrantSeconds::REQUESTED,
+    epoch: Epoch::DEFAULT,
 };

@@ -5,6 +5,7 @@ ghost use Rattle.std.specs.Prelude.{◌≡◌};
 use crate::headers::header_from;
 use ptu_header::{Header, PortIdentity};
 use ptu_record::Wants;
+use ptu_units::{Domain, ReceiptTimeout, WaitToRestore};
 
 /// A master of a slave.
 #[derive(Clone, Copy)]
@@ -15,25 +16,23 @@ pub struct Master {
     pub priority: u8,
 }
 
-/// What a slave is set up with. Calls that take it ask that its values are within their limits
-/// (`IsWithinLimits`).
+/// What a slave is set up with. The types of its fields keep them within their limits.
 #[derive(Clone, Copy)]
 pub struct SlaveConfig {
     /// Its own port identity, which its messages have as sourcePortIdentity.
     pub identity: PortIdentity,
-    /// Its domainNumber, from 4 to 23.
-    pub domain: u8,
-    /// What it requests of each master: Announce at a logarithm from -3 on, and a duration from
-    /// 60 seconds on.
+    /// Its domainNumber.
+    pub domain: Domain,
+    /// What it requests of each master.
     pub wants: Wants,
-    /// The announce receipt timeout, from 2 to 10 periods.
-    pub announce_timeout: u8,
-    /// The receipt timeout of Sync messages, from 2 to 10 periods.
-    pub sync_timeout: u8,
-    /// The receipt timeout of Delay_Resps, from 2 to 10 periods.
-    pub delay_timeout: u8,
-    /// The wait to restore, from 0 to 720 seconds.
-    pub wait: u32,
+    /// The announce receipt timeout.
+    pub announce_timeout: ReceiptTimeout,
+    /// The receipt timeout of Sync messages.
+    pub sync_timeout: ReceiptTimeout,
+    /// The receipt timeout of Delay_Resps.
+    pub delay_timeout: ReceiptTimeout,
+    /// The wait to restore.
+    pub wait: WaitToRestore,
 }
 
 impl SlaveConfig {

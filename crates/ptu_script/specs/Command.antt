@@ -12,6 +12,7 @@ use Rattle.ptu_script.specs.declared.verb.Verb.{Verb}
 use Rattle.ptu_script.specs.declared.verb.Verb.TheVariants.{Gm, Slave, Master, Rx, Deliver, Turn, Tick, Flag, Judge, Stop, Class, Capacity}
 use Rattle.ptu_script.specs.Verb.{verb_named, counts_of}
 use Rattle.ptu_script.specs.Fields.{◌>>=◌, field, from_to, log_of_kind, delay_log, rule_named, truth_of}
+use Rattle.ptu_script.specs.Fields.{port_number_of, domain_of, capacity_of, duration_of, timeout_of, wait_of}
 
 -- T: a moment in nanoseconds
 abbrev pub moment_of : List ℕ → Option ℕ
@@ -22,31 +23,31 @@ unfoldable pub grandmaster_in : List ℕ → Result GrandmasterSetup Cause
 grandmaster_in line = do
   ip ← field 2 ip_of line
   clock ← field 3 clock_of line
-  port ← field 4 (from_to 1 65534) line
-  domain ← field 5 (from_to 4 23) line
+  port ← field 4 port_number_of line
+  domain ← field 5 domain_of line
   class ← field 6 (from_to 0 255) line
-  capacity ← field 7 (from_to 1 16777216) line
-  max_duration ← field 8 (from_to 60 1000) line
+  capacity ← field 7 capacity_of line
+  max_duration ← field 8 duration_of line
   Ok (record { ip = ip; clock = clock; port = port; domain = domain; class = class; capacity = capacity; max_duration = max_duration })
 
 -- the word TD, which a line of 12 words lacks
 abbrev pub delay_timeout_in : List ℕ → Result ℕ Cause
-delay_timeout_in line = if length (words_of line) == 12 then Ok 3 else field 13 (from_to 2 10) line
+delay_timeout_in line = if length (words_of line) == 12 then Ok 3 else field 13 timeout_of line
 
 -- slave IP CLOCK PORT DOMAIN WAIT TA TS LA LS LD DUR, and TD where there is a 13th word
 unfoldable pub slave_in : List ℕ → Result SlaveSetup Cause
 slave_in line = do
   ip ← field 2 ip_of line
   clock ← field 3 clock_of line
-  port ← field 4 (from_to 1 65534) line
-  domain ← field 5 (from_to 4 23) line
-  wait ← field 6 (from_to 0 720) line
-  announce_timeout ← field 7 (from_to 2 10) line
-  sync_timeout ← field 8 (from_to 2 10) line
+  port ← field 4 port_number_of line
+  domain ← field 5 domain_of line
+  wait ← field 6 wait_of line
+  announce_timeout ← field 7 timeout_of line
+  sync_timeout ← field 8 timeout_of line
   announce ← field 9 (log_of_kind kinds.Announce) line
   sync ← field 10 (log_of_kind kinds.Sync) line
   delay ← field 11 delay_log line
-  seconds ← field 12 (from_to 60 1000) line
+  seconds ← field 12 duration_of line
   delay_timeout ← delay_timeout_in line
   Ok (record {
     ip = ip;
@@ -124,7 +125,7 @@ fields_in Class line = do
 fields_in Capacity line = do
   at ← field 2 moment_of line
   node ← field 3 ip_of line
-  capacity ← field 4 (from_to 1 16777216) line
+  capacity ← field 4 capacity_of line
   Ok (commands.Event at node (acts.Capacity capacity))
 
 -- the line has one of these numbers of words

@@ -4,6 +4,8 @@ use Rattle.std.specs.Str.{bytes_eq}
 use Rattle.ptu_units.specs.declared.kind.Kind.{Kind}
 use Rattle.ptu_units.specs.declared.kind.Kind.TheVariants as kinds
 use Rattle.ptu_units.specs.Log.{least_log}
+use Rattle.ptu_units.specs.Limits.{least_capacity, greatest_capacity, least_domain, greatest_domain, least_duration, greatest_duration}
+use Rattle.ptu_units.specs.Limits.{least_port, greatest_port, least_timeout, greatest_timeout, greatest_wait}
 use Rattle.ptu_lines.specs.Words.{word_of, number_within, log_within, is_dash}
 use Rattle.ptu_record.specs.declared.rule.Rule.{Rule}
 use Rattle.ptu_record.specs.declared.rule.Rule.TheVariants as rules
@@ -26,6 +28,25 @@ field k form line = or_field k (option_and_then form (word_of line k))
 -- NUM in a range
 abbrev pub from_to : ℕ → ℕ → List ℕ → Option ℕ
 from_to least greatest word = number_within word least greatest
+
+-- NUM within the limits of a setting
+abbrev pub port_number_of : List ℕ → Option ℕ
+port_number_of = from_to least_port greatest_port
+
+abbrev pub domain_of : List ℕ → Option ℕ
+domain_of = from_to least_domain greatest_domain
+
+abbrev pub capacity_of : List ℕ → Option ℕ
+capacity_of = from_to least_capacity greatest_capacity
+
+abbrev pub duration_of : List ℕ → Option ℕ
+duration_of = from_to least_duration greatest_duration
+
+abbrev pub timeout_of : List ℕ → Option ℕ
+timeout_of = from_to least_timeout greatest_timeout
+
+abbrev pub wait_of : List ℕ → Option ℕ
+wait_of = from_to 0 greatest_wait
 
 -- LOG in the range of a kind
 abbrev pub log_of_kind : Kind → List ℕ → Option ℤ

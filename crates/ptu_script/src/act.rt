@@ -2,6 +2,7 @@
 
 use ptu_lines::LentOctets;
 use ptu_record::Rule;
+use ptu_units::Capacity;
 
 /// What an event of a script tells the node at an address. A node that is of another kind, or has
 /// no such master, refuses it. The octets of a datagram stand in room that the reader's caller
@@ -14,9 +15,8 @@ pub enum Act<'a> {
     Turn { table: usize },
     /// The clockClass of a grandmaster changes. Nothing is said of it.
     Class { class: u8 },
-    /// The capacity of a grandmaster changes to one from 1 to 16777216, in sixteenths of a message
-    /// per second.
-    Capacity { capacity: u64 },
+    /// The capacity of a grandmaster changes.
+    Capacity { capacity: Capacity },
     /// A slave takes a tick.
     Tick,
     /// The operator says to a slave whether a master is unusable.

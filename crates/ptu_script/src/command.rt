@@ -2,7 +2,9 @@
 
 use crate::act::Act;
 use ptu_record::{Rule, Wants};
-use ptu_units::Moment;
+use ptu_units::{
+    Capacity, Domain, GrantSeconds, Moment, PortNumber, ReceiptTimeout, WaitToRestore,
+};
 
 /// What `gm IP CLOCK PORT DOMAIN CLASS CAPACITY MAX` says.
 #[derive(Clone, Copy)]
@@ -11,16 +13,16 @@ pub struct GrandmasterSetup {
     pub ip: u32,
     /// The clockIdentity of its port identity.
     pub clock: u64,
-    /// The portNumber of its port identity, from 1 to 65534.
-    pub port: u16,
-    /// The domainNumber, from 4 to 23.
-    pub domain: u8,
+    /// The portNumber of its port identity.
+    pub port: PortNumber,
+    /// The domainNumber.
+    pub domain: Domain,
     /// The clockClass.
     pub class: u8,
-    /// The capacity in sixteenths of a message per second, from 1 to 16777216.
-    pub capacity: u64,
-    /// The longest duration that it grants, from 60 to 1000 seconds.
-    pub max_duration: u32,
+    /// The capacity.
+    pub capacity: Capacity,
+    /// The longest duration that it grants.
+    pub max_duration: GrantSeconds,
 }
 
 /// What `slave IP CLOCK PORT DOMAIN WAIT TA TS LA LS LD DUR TD` says.
@@ -30,20 +32,20 @@ pub struct SlaveSetup {
     pub ip: u32,
     /// The clockIdentity of its port identity.
     pub clock: u64,
-    /// The portNumber of its port identity, from 1 to 65534.
-    pub port: u16,
-    /// The domainNumber, from 4 to 23.
-    pub domain: u8,
-    /// How long a master waits to be restored, from 0 to 720 seconds.
-    pub wait: u32,
-    /// After how many Announce intervals an Announce is lost, from 2 to 10.
-    pub announce_timeout: u8,
-    /// After how many Sync intervals a Sync is lost, from 2 to 10.
-    pub sync_timeout: u8,
-    /// After how many Delay_Req intervals a Delay_Resp is lost, from 2 to 10; 3 where the line has
-    /// no such word.
-    pub delay_timeout: u8,
-    /// What it asks its masters for, for 60 to 1000 seconds.
+    /// The portNumber of its port identity.
+    pub port: PortNumber,
+    /// The domainNumber.
+    pub domain: Domain,
+    /// How long a master waits to be restored.
+    pub wait: WaitToRestore,
+    /// After how many Announce intervals an Announce is lost.
+    pub announce_timeout: ReceiptTimeout,
+    /// After how many Sync intervals a Sync is lost.
+    pub sync_timeout: ReceiptTimeout,
+    /// After how many Delay_Req intervals a Delay_Resp is lost; the default where the line has no
+    /// such word.
+    pub delay_timeout: ReceiptTimeout,
+    /// What it asks its masters for.
     pub wants: Wants,
 }
 

@@ -6,7 +6,10 @@ ghost use Rattle.ptu_script.specs.declared.verb.Verb.TheVariants as verbs;
 use crate::act::Act;
 use crate::cause::Cause;
 use crate::command::Command;
-use crate::fields::{ip_field, moment_field, number_field, octets_field, rule_field, truth_field};
+use crate::fields::{
+    capacity_field, ip_field, moment_field, number_field, octet_field, octets_field, rule_field,
+    truth_field,
+};
 use ptu_lines::WordList;
 use ptu_units::Moment;
 use ptu_units::sizes::LONGEST_DATAGRAM;
@@ -117,11 +120,11 @@ pub fn class<'a>(line: &WordList) -> Result<Command<'a>, Cause>
     ensures within { IfOk result IsWithinLimits }
 {
     let node = ip_field(line, 2)?;
-    let class = number_field(line, 3, 0, 255)?;
+    let class = octet_field(line, 3)?;
     Ok(Command::Event {
         at: Moment::default(),
         node,
-        act: Act::Class { class: class as u8 },
+        act: Act::Class { class },
     })
 }
 
@@ -137,7 +140,7 @@ pub fn capacity<'a>(line: &WordList) -> Result<Command<'a>, Cause>
 {
     let at = moment_field(line, 2)?;
     let node = ip_field(line, 3)?;
-    let capacity = number_field(line, 4, 1, 16_777_216)?;
+    let capacity = capacity_field(line, 4)?;
     let act = Act::Capacity { capacity };
     Ok(Command::Event { at, node, act })
 }

@@ -2,16 +2,21 @@
 
 ghost use Rattle.std.specs.Prelude.{◌≡◌, ◌≤◌, ◌≤ℤ◌, pos, IfOk, Some, None, IfSome, MatchOption, option_and_then, option_copied, length, take};
 ghost use Rattle.ptu_units.specs.Log.{IsLogOf, least_log};
+ghost use Rattle.ptu_units.specs.Limits.{IsCapacity, IsDomain, IsDuration, IsPort, IsTimeout, IsWait};
 ghost use Rattle.ptu_units.specs.declared.kind.Kind.TheVariants as kinds;
 ghost use Rattle.ptu_lines.specs.Words.{word_of, int_within, ip_of, clock_of, octets_of};
 ghost use Rattle.ptu_script.specs.Fields.{or_field, field, from_to, log_of_kind, delay_log, rule_named, truth_of};
+ghost use Rattle.ptu_script.specs.Fields.{port_number_of, domain_of, capacity_of, duration_of, timeout_of, wait_of};
 ghost use Rattle.ptu_script.specs.{Command.{moment_of}, Limits.{IsNamed}};
 
 use crate::cause::Cause;
 use ptu_lines::{LentOctets, WordList, clock, ip, log, number, octets};
 use ptu_record::{NAMED_GAP, Rule};
 use ptu_units::sizes::LONGEST_DATAGRAM;
-use ptu_units::{Kind, Log, Moment};
+use ptu_units::{
+    AnnounceLog, Capacity, Domain, GrantSeconds, Kind, Log, Moment, PortNumber, ReceiptTimeout,
+    WaitToRestore,
+};
 
 // The value that there is, or that the word with this number is outside its form.
 fn or_outside<T: Drop>(value: Option<T>, k: u8) -> Result<T, Cause>
@@ -76,6 +81,160 @@ pub fn number_field(line: &WordList, k: u8, least: u64, greatest: u64) -> Result
     or_outside(number_at(line, k, least, greatest), k)
 }
 
+// The number up to `greatest`.
+fn octet_at(line: &WordList, k: u8, greatest: u8) -> Option<u8>
+    ensures value { result ≡ option_and_then (from_to 0 greatest) (word_of line.now k) }
+    ensures within { IfSome result (λ n. n ≤ greatest) }
+{
+    u8::try_from(number_at(line, k, 0, greatest.into())?).ok()
+}
+
+/// The number from 0 to 255 that word k of the line writes in decimal digits.
+///
+/// # Errors
+/// `Field(k)` if the word has another form or is out of its range, or is not there.
+pub fn octet_field(line: &WordList, k: u8) -> Result<u8, Cause>
+    ensures { result ≡ field k (from_to 0 255) line.now }
+{
+    or_outside(octet_at(line, k, u8::MAX), k)
+}
+
+/// The number of leading bits of an IPv4 address, from 0 to 32, that word k of the line writes in
+/// decimal digits.
+///
+/// # Errors
+/// `Field(k)` if the word has another form or is out of its range, or is not there.
+pub fn bits_field(line: &WordList, k: u8) -> Result<u8, Cause>
+    ensures value { result ≡ field k (from_to 0 32) line.now }
+    ensures within { IfOk result (λ n. n ≤ 32) }
+{
+    or_outside(octet_at(line, k, 32), k)
+}
+
+fn port_at(line: &WordList, k: u8) -> Option<PortNumber>
+    ensures value { result ≡ option_and_then port_number_of (word_of line.now k) }
+    ensures within { IfSome result IsPort }
+{
+    PortNumber::of(number_at(
+        line,
+        k,
+        PortNumber::LEAST.into(),
+        PortNumber::GREATEST.into(),
+    )?)
+}
+
+/// The portNumber that word k of the line writes in decimal digits.
+///
+/// # Errors
+/// `Field(k)` if the word has another form or is out of its range, or is not there.
+pub fn port_field(line: &WordList, k: u8) -> Result<PortNumber, Cause>
+    ensures value { result ≡ field k port_number_of line.now }
+    ensures within { IfOk result IsPort }
+{
+    or_outside(port_at(line, k), k)
+}
+
+fn domain_at(line: &WordList, k: u8) -> Option<Domain>
+    ensures value { result ≡ option_and_then domain_of (word_of line.now k) }
+    ensures within { IfSome result IsDomain }
+{
+    Domain::of(number_at(line, k, Domain::LEAST.into(), Domain::GREATEST.into())?)
+}
+
+/// The domainNumber that word k of the line writes in decimal digits.
+///
+/// # Errors
+/// `Field(k)` if the word has another form or is out of its range, or is not there.
+pub fn domain_field(line: &WordList, k: u8) -> Result<Domain, Cause>
+    ensures value { result ≡ field k domain_of line.now }
+    ensures within { IfOk result IsDomain }
+{
+    or_outside(domain_at(line, k), k)
+}
+
+fn capacity_at(line: &WordList, k: u8) -> Option<Capacity>
+    ensures value { result ≡ option_and_then capacity_of (word_of line.now k) }
+    ensures within { IfSome result IsCapacity }
+{
+    Capacity::of(number_at(line, k, Capacity::LEAST, Capacity::GREATEST)?)
+}
+
+/// The capacity that word k of the line writes in decimal digits, in sixteenths of a message per
+/// second.
+///
+/// # Errors
+/// `Field(k)` if the word has another form or is out of its range, or is not there.
+pub fn capacity_field(line: &WordList, k: u8) -> Result<Capacity, Cause>
+    ensures value { result ≡ field k capacity_of line.now }
+    ensures within { IfOk result IsCapacity }
+{
+    or_outside(capacity_at(line, k), k)
+}
+
+fn duration_at(line: &WordList, k: u8) -> Option<GrantSeconds>
+    ensures value { result ≡ option_and_then duration_of (word_of line.now k) }
+    ensures within { IfSome result IsDuration }
+{
+    GrantSeconds::of(number_at(
+        line,
+        k,
+        GrantSeconds::LEAST.into(),
+        GrantSeconds::GREATEST.into(),
+    )?)
+}
+
+/// The duration of a grant in seconds that word k of the line writes in decimal digits.
+///
+/// # Errors
+/// `Field(k)` if the word has another form or is out of its range, or is not there.
+pub fn duration_field(line: &WordList, k: u8) -> Result<GrantSeconds, Cause>
+    ensures value { result ≡ field k duration_of line.now }
+    ensures within { IfOk result IsDuration }
+{
+    or_outside(duration_at(line, k), k)
+}
+
+fn timeout_at(line: &WordList, k: u8) -> Option<ReceiptTimeout>
+    ensures value { result ≡ option_and_then timeout_of (word_of line.now k) }
+    ensures within { IfSome result IsTimeout }
+{
+    ReceiptTimeout::of(number_at(
+        line,
+        k,
+        ReceiptTimeout::LEAST.into(),
+        ReceiptTimeout::GREATEST.into(),
+    )?)
+}
+
+/// The receipt timeout in periods that word k of the line writes in decimal digits.
+///
+/// # Errors
+/// `Field(k)` if the word has another form or is out of its range, or is not there.
+pub fn timeout_field(line: &WordList, k: u8) -> Result<ReceiptTimeout, Cause>
+    ensures value { result ≡ field k timeout_of line.now }
+    ensures within { IfOk result IsTimeout }
+{
+    or_outside(timeout_at(line, k), k)
+}
+
+fn wait_at(line: &WordList, k: u8) -> Option<WaitToRestore>
+    ensures value { result ≡ option_and_then wait_of (word_of line.now k) }
+    ensures within { IfSome result IsWait }
+{
+    WaitToRestore::of(number_at(line, k, 0, WaitToRestore::GREATEST.into())?)
+}
+
+/// The wait to restore in seconds that word k of the line writes in decimal digits.
+///
+/// # Errors
+/// `Field(k)` if the word has another form or is out of its range, or is not there.
+pub fn wait_field(line: &WordList, k: u8) -> Result<WaitToRestore, Cause>
+    ensures value { result ≡ field k wait_of line.now }
+    ensures within { IfOk result IsWait }
+{
+    or_outside(wait_at(line, k), k)
+}
+
 #[inline(always)]
 fn moment_at(line: &WordList, k: u8) -> Option<Moment>
     ensures { result ≡ option_and_then moment_of (word_of line.now k) }
@@ -126,6 +285,24 @@ pub fn log_field(line: &WordList, k: u8, kind: Kind) -> Result<Log, Cause>
     ensures within { IfOk result (IsLogOf kind) }
 {
     or_outside(log_at(line, k, kind), k)
+}
+
+fn announce_log_at(line: &WordList, k: u8) -> Option<AnnounceLog>
+    ensures value { result ≡ option_and_then (log_of_kind kinds.Announce) (word_of line.now k) }
+    ensures within { IfSome result (IsLogOf kinds.Announce) }
+{
+    AnnounceLog::of(log_at(line, k, Kind::Announce)?.value())
+}
+
+/// The logarithm of the Announce interval that word k of the line writes, from -3 to 4.
+///
+/// # Errors
+/// `Field(k)` if the word has another form or is out of its range, or is not there.
+pub fn announce_log_field(line: &WordList, k: u8) -> Result<AnnounceLog, Cause>
+    ensures value { result ≡ field k (log_of_kind kinds.Announce) line.now }
+    ensures within { IfOk result (IsLogOf kinds.Announce) }
+{
+    or_outside(announce_log_at(line, k), k)
 }
 
 fn delay_log_at(line: &WordList, k: u8) -> Option<Option<Log>>

@@ -1,15 +1,19 @@
 //! The lines that set a node up.
-ghost use Rattle.std.specs.Prelude.{◌≡◌, ◌≤◌, IfOk};
+ghost use Rattle.std.specs.Prelude.{◌≡◌, IfOk};
+ghost use Rattle.ptu_units.specs.Limits.{IsTimeout};
 ghost use Rattle.ptu_script.specs.Command.{grandmaster_in, delay_timeout_in, slave_in, fields_in};
 ghost use Rattle.ptu_script.specs.Limits.{IsGrandmasterWithin, IsSlaveWithin, IsWithinLimits};
 ghost use Rattle.ptu_script.specs.declared.verb.Verb.TheVariants as verbs;
 
 use crate::cause::Cause;
 use crate::command::{Command, GrandmasterSetup, SlaveSetup};
-use crate::fields::{clock_field, delay_log_field, ip_field, log_field, number_field, rule_field};
+use crate::fields::{
+    announce_log_field, capacity_field, clock_field, delay_log_field, domain_field, duration_field,
+    ip_field, log_field, octet_field, port_field, rule_field, timeout_field, wait_field,
+};
 use ptu_lines::WordList;
 use ptu_record::Wants;
-use ptu_units::Kind;
+use ptu_units::{Kind, ReceiptTimeout};
 
 /// The fields of `gm IP CLOCK PORT DOMAIN CLASS CAPACITY MAX`.
 ///
@@ -22,31 +26,31 @@ pub fn grandmaster(line: &WordList) -> Result<GrandmasterSetup, Cause>
 {
     let ip = ip_field(line, 2)?;
     let clock = clock_field(line, 3)?;
-    let port = number_field(line, 4, 1, 65534)?;
-    let domain = number_field(line, 5, 4, 23)?;
-    let class = number_field(line, 6, 0, 255)?;
-    let capacity = number_field(line, 7, 1, 16_777_216)?;
-    let max_duration = number_field(line, 8, 60, 1000)?;
+    let port = port_field(line, 4)?;
+    let domain = domain_field(line, 5)?;
+    let class = octet_field(line, 6)?;
+    let capacity = capacity_field(line, 7)?;
+    let max_duration = duration_field(line, 8)?;
     Ok(GrandmasterSetup {
         ip,
         clock,
-        port: port as u16,
-        domain: domain as u8,
-        class: class as u8,
+        port,
+        domain,
+        class,
         capacity,
-        max_duration: max_duration as u32,
+        max_duration,
     })
 }
 
 // The word TD, which a line of 12 words lacks.
-fn delay_timeout(line: &WordList) -> Result<u64, Cause>
+fn delay_timeout(line: &WordList) -> Result<ReceiptTimeout, Cause>
     ensures value { result ≡ delay_timeout_in line.now }
-    ensures within { IfOk result (λ n. (2 ≤ n) × (n ≤ 10)) }
+    ensures within { IfOk result IsTimeout }
 {
     if line.count() == 12 {
-        Ok(3)
+        Ok(ReceiptTimeout::DEFAULT)
     } else {
-        number_field(line, 13, 2, 10)
+        timeout_field(line, 13)
     }
 }
 
@@ -59,31 +63,31 @@ fn slave(line: &WordList) -> Result<SlaveSetup, Cause>
 {
     let ip = ip_field(line, 2)?;
     let clock = clock_field(line, 3)?;
-    let port = number_field(line, 4, 1, 65534)?;
-    let domain = number_field(line, 5, 4, 23)?;
-    let wait = number_field(line, 6, 0, 720)?;
-    let announce_timeout = number_field(line, 7, 2, 10)?;
-    let sync_timeout = number_field(line, 8, 2, 10)?;
-    let announce = log_field(line, 9, Kind::Announce)?;
+    let port = port_field(line, 4)?;
+    let domain = domain_field(line, 5)?;
+    let wait = wait_field(line, 6)?;
+    let announce_timeout = timeout_field(line, 7)?;
+    let sync_timeout = timeout_field(line, 8)?;
+    let announce = announce_log_field(line, 9)?;
     let sync = log_field(line, 10, Kind::Sync)?;
     let delay = delay_log_field(line, 11)?;
-    let seconds = number_field(line, 12, 60, 1000)?;
+    let seconds = duration_field(line, 12)?;
     let delay_timeout = delay_timeout(line)?;
     let wants = Wants {
         announce,
         sync,
         delay,
-        seconds: seconds as u32,
+        seconds,
     };
     Ok(SlaveSetup {
         ip,
         clock,
-        port: port as u16,
-        domain: domain as u8,
-        wait: wait as u32,
-        announce_timeout: announce_timeout as u8,
-        sync_timeout: sync_timeout as u8,
-        delay_timeout: delay_timeout as u8,
+        port,
+        domain,
+        wait,
+        announce_timeout,
+        sync_timeout,
+        delay_timeout,
         wants,
     })
 }
@@ -124,12 +128,12 @@ pub fn master<'a>(line: &WordList) -> Result<Command<'a>, Cause>
 {
     let slave = ip_field(line, 2)?;
     let ip = ip_field(line, 3)?;
-    let priority = number_field(line, 4, 0, 255)?;
+    let priority = octet_field(line, 4)?;
     let rule = rule_field(line, 5)?;
     Ok(Command::Master {
         slave,
         ip,
-        priority: priority as u8,
+        priority,
         rule,
     })
 }

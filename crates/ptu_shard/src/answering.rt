@@ -3,7 +3,6 @@
 ghost use Rattle.std.specs.Prelude.{◌≡◌};
 ghost use Rattle.ptu_shard.specs.Answered.{answer_by, failed_by, met_by, moment_of_answer, responses, sent_by};
 ghost use Rattle.ptu_shard.specs.Messages.{response_of};
-ghost use Rattle.ptu_profile.specs.Grandmaster.{IsWithinLimits};
 ghost use Rattle.ptu_outside.specs.HandsOver.{HandsOver};
 
 use crate::answered::Answered;
@@ -24,7 +23,6 @@ pub(crate) fn answer_request<P: Port>(
     request: &Header,
     lease: Option<Lease>,
 ) -> Answered
-    requires { IsWithinLimits config.now }
     ensures at { moment_of_answer result ≡ at }
     ensures answer { met_by result ≡ answer_by at lease }
     ensures sends { HandsOver P.Port port.old port.new

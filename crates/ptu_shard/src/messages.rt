@@ -1,10 +1,9 @@
 //! The timing messages of a grandmaster (IEEE 1588-2019 clause 13).
 
-ghost use Rattle.std.specs.Prelude.{◌≡◌, [], ◌∷◌, List, true};
+ghost use Rattle.std.specs.Prelude.{◌≡◌, ◌<◌, ◌^◌, [], ◌∷◌, List, true};
 ghost use Rattle.ptu_history.specs.Turns.{is_turned};
 ghost use Rattle.ptu_messages.specs.Sent.{IsFixed, octets_sent};
 ghost use Rattle.ptu_outside.specs.HandsOver.{HandsOver, failed_in, sent_in};
-ghost use Rattle.ptu_profile.specs.Grandmaster.{IsWithinLimits};
 ghost use Rattle.ptu_shard.specs.Messages.{announce_of, message_of_response, message_of_turn};
 
 use ptu_header::Header;
@@ -29,8 +28,8 @@ const INTERNAL_OSCILLATOR: u8 = 0xa0;
 
 // The body of an Announce, whose timescale is the grandmaster's own.
 fn announce(config: &GmConfig, at: Moment) -> AnnounceBody
-    requires { IsWithinLimits config.now }
-    ensures { result ≡ announce_of config.now at }
+    ensures body { result ≡ announce_of config.now at }
+    ensures fits { result.origin.seconds < 2 ^ 48 }
 {
     AnnounceBody {
         origin: stamp(config.epoch, at),
@@ -48,7 +47,6 @@ fn announce(config: &GmConfig, at: Moment) -> AnnounceBody
 
 /// The message of a kind that a turn sends.
 pub(crate) fn turn_message(config: &GmConfig, at: Moment, kind: Kind, sequence: u16) -> Message
-    requires limits { IsWithinLimits config.now }
     ensures message { result ≡ message_of_turn config.now at kind sequence }
     ensures fixed { is_turned kind ≡ true → IsFixed result }
 {
@@ -64,7 +62,6 @@ pub(crate) fn turn_message(config: &GmConfig, at: Moment, kind: Kind, sequence: 
 
 /// The Delay_Resp that answers a Delay_Req with this header.
 pub(crate) fn response_message(config: &GmConfig, at: Moment, request: &Header) -> Message
-    requires { IsWithinLimits config.now }
     ensures message { result ≡ message_of_response config.now at request.now }
     ensures fixed { IsFixed result }
 {

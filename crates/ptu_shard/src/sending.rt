@@ -3,7 +3,6 @@
 ghost use Rattle.std.specs.Prelude.{◌≡◌, ◌∷◌, [], List, true};
 ghost use Rattle.ptu_outside.specs.HandsOver.{HandsOver, failed_in, sent_in};
 ghost use Rattle.ptu_history.specs.Turns.{is_turned};
-ghost use Rattle.ptu_profile.specs.Grandmaster.{IsWithinLimits};
 ghost use Rattle.ptu_shard.specs.Messages.{channel_of, departure_of, response_of};
 ghost use Rattle.ptu_shard.specs.Turn.{message_of_row};
 
@@ -32,7 +31,6 @@ pub(crate) fn send_message<P: Port>(
     at: Moment,
     row: &Row,
 ) -> Result<(), Failed>
-    requires limits { IsWithinLimits config.now }
     requires turned { is_turned row.now.kind ≡ true }
     ensures { HandsOver P.Port port.old port.new
         (departure_of config.now at (message_of_row row.now) ∷ [])
@@ -50,7 +48,6 @@ pub(crate) fn send_response<P: Port>(
     client: &Client,
     request: &Header,
 ) -> Result<(), Failed>
-    requires { IsWithinLimits config.now }
     ensures { HandsOver P.Port port.old port.new
         (response_of config.now at client.now request.now ∷ [])
         (sent_in result) (failed_in result) }

@@ -12,7 +12,6 @@ ghost use Rattle.ptu_shard.specs.{Lends.{LendsPort}, Messages.{departure_of, res
 ghost use Rattle.ptu_shard.specs.Row.{IsDistinctByLease, lease_of, share_of, without_row};
 ghost use Rattle.ptu_shard.specs.Table.{IsIdleUntil, IsLeaseOf, StandsBeside, StandsFor};
 ghost use Rattle.ptu_shard.specs.Turn.{is_answering_row, is_due_row, due_messages, spent_where};
-ghost use Rattle.ptu_profile.specs.Grandmaster.{IsWithinLimits};
 ghost use Rattle.ptu_outside.specs.HandsOver.{HandsOver};
 
 use crate::answered::{Answered, Turned};
@@ -268,7 +267,6 @@ impl<P: Port> Shard<P> {
     /// greater of `t` and the table's moment: by earliest lawful moment, then client, then kind. A
     /// failed send spends its period and its sequence number like one that succeeded.
     pub fn turn(&mut self, config: &GmConfig, t: Moment) -> Turned
-        requires { IsWithinLimits config.now }
         ensures at { result.at ≡ max t self.old.moment }
         ensures moment { self.new.moment ≡ result.at }
         // Every lawful message is handed to the port, in order, and nothing else.
@@ -307,7 +305,6 @@ impl<P: Port> Shard<P> {
         client: &Client,
         request: &Header,
     ) -> Answered
-        requires { IsWithinLimits config.now }
         ensures at { moment_of_answer result ≡ max t self.old.moment }
         ensures moment { self.new.moment ≡ max t self.old.moment }
         ensures answer { met_by result

@@ -3,7 +3,6 @@
 ghost use Rattle.std.specs.Prelude.{◌≡◌, ◌<◌, ◌≤◌, [], ◌∷◌, map, true, IfNone, IfSome};
 ghost use Rattle.indexmap.specs.IndexMap.{spare};
 ghost use Rattle.ptu_outside.specs.HandsOver.{HandsOver};
-ghost use Rattle.ptu_profile.specs.Grandmaster.{IsWithinLimits};
 ghost use Rattle.ptu_shard.specs.{Fields.{rows_of}, Messages.{departure_of}, Queue.{HasEdges}};
 ghost use Rattle.ptu_shard.specs.Row.{IsDistinctByLease};
 ghost use Rattle.ptu_shard.specs.Turn.{due_messages, due_rows, is_due_row, spent_where};
@@ -53,7 +52,6 @@ pub(crate) fn send_due<P: Port>(
     config: &GmConfig,
     at: Moment,
 ) -> Sends
-    requires limits { IsWithinLimits config.now }
     requires edges { HasEdges at (rows_of rows.old.entries) edges.old.entries }
     ensures sends { HandsOver P.Port port.old port.new
         (map (departure_of config.now at) (due_messages at (rows_of rows.old.entries)))

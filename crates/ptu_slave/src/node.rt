@@ -7,7 +7,7 @@ ghost use Rattle.ptu_record.specs.Lists.{places};
 ghost use Rattle.ptu_record.specs.Record.{Record, record_of, Announce, Resp, Judged, Cancelled};
 ghost use Rattle.ptu_record.specs.{Grants.{live_kinds}, Selection.{selected_master}};
 ghost use Rattle.ptu_record.specs.Tick.{is_stop, requests_to, sending_entries, tick_sendings};
-ghost use Rattle.ptu_profile.specs.Slave.{AreMasters, IsWithinLimits, address_of, priorities, timeouts};
+ghost use Rattle.ptu_profile.specs.Slave.{AreMasters, address_of, priorities, timeouts};
 ghost use Rattle.ptu_requester.specs.Due as due;
 ghost use Rattle.ptu_select.specs.Selecting.{SelectsBy};
 ghost use Rattle.ptu_slave_messages.specs.Sending.{kinds_in, stop_plan, tick_plan};
@@ -86,15 +86,14 @@ fn new_selector(
     config: &SlaveConfig,
     masters: &[Master],
 ) -> Result<Selector, OutOfMemory>
-    requires { IsWithinLimits config.now }
     ensures masters { IfOk result (λ s. length s ≡ length masters.now) }
     ensures selects { IfOk result (λ s. SelectsBy s
         (timeouts config.now) (priorities masters.now) []) }
 {
-    let ta = receipt_timeout(config.announce_timeout, config.wants.announce);
+    let ta = receipt_timeout(config.announce_timeout, config.wants.announce.get());
     let ts = receipt_timeout(config.sync_timeout, config.wants.sync);
     let td = delay_timeout(config);
-    let wait = config.wait as u64 * NANOS_PER_SECOND;
+    let wait = u64::from(config.wait.get()) * NANOS_PER_SECOND;
     let priorities = priorities_of(alloc, masters)?;
     Selector::new(alloc, ta, ts, td, wait, &priorities)
 }
@@ -114,8 +113,7 @@ impl Core {
         config: SlaveConfig,
         masters: Vec<Master>,
     ) -> Result<Core, OutOfMemory>
-        requires limits { IsWithinLimits config }
-        requires masters { AreMasters masters.items }
+        requires { AreMasters masters.items }
         ensures config { IfOk result (λ c. c.config ≡ config) }
         ensures masters { IfOk result (λ c. c.masters ≡ masters.items) }
         ensures fresh { IfOk result (λ c. (c.moment ≡ 0) × (c.stopped ≡ false)) }

@@ -11,7 +11,7 @@ ghost use Rattle.ptu_outside.specs.Replies.{reply_failed, reply_sent};
 ghost use Rattle.ptu_record.specs.{declared.rule.Rule.{Rule}, Record.{Record, event_moment}};
 ghost use Rattle.ptu_record.specs.{Selection.{selected_master}, Step.{TakeSync}};
 ghost use Rattle.ptu_judges.specs.{Held.{IsFresh}, Calls.{OfOne, Then, WasAsked, WasHeard}};
-ghost use Rattle.ptu_profile.specs.Slave.{AreMasters, IsWithinLimits, address_of, priorities, timeouts};
+ghost use Rattle.ptu_profile.specs.Slave.{AreMasters, address_of, priorities, timeouts};
 ghost use Rattle.ptu_slave_messages.specs.Heard.{FitsReply, answer_of, event_of, heard_of, replies_in, reply_datagrams, reply_in, taken_of};
 ghost use Rattle.ptu_slave_messages.specs.Reception.{reception};
 ghost use Rattle.ptu_slave_messages.specs.declared.reason.SlaveReason.{SlaveReason};
@@ -65,7 +65,6 @@ impl<P: Port> Slave<P> {
         judges: Vec<Box<dyn Judge>>,
         port: P,
     ) -> Result<Slave<P>, OutOfMemory>
-        requires limits { IsWithinLimits config }
         requires masters { AreMasters masters.items }
         requires judges { length judges.items ≡ length masters.items }
         requires fresh { All (λ j. IsFresh (held j)) judges.items }
@@ -97,7 +96,6 @@ impl<P: Port> Slave<P> {
         master: Master,
         judge: Box<dyn Judge>,
     ) -> Result<Slave<P>, OutOfMemory>
-        requires limits { IsWithinLimits (seen held self).kept.config }
         requires masters { AreMasters ((seen held self).kept.masters
             ++ master ∷ []) }
         requires fresh { AllByRecursion IsFresh

@@ -45,7 +45,7 @@ fn request(wants: &Wants, kind: Kind) -> Tlv
     Tlv::Request(Ask {
         code: kind.code(),
         log,
-        seconds: wants.seconds,
+        seconds: wants.seconds.get(),
     })
 }
 

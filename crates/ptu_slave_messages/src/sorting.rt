@@ -68,7 +68,7 @@ pub(crate) fn sender(
     let Some(master) = place(masters, from) else {
         return Err(SlaveReason::Stranger);
     };
-    if message.header.domain != config.domain {
+    if message.header.domain != config.domain.get() {
         return Err(SlaveReason::Domain(message.header.domain));
     }
     if !suits(config.identity, &message.body) {

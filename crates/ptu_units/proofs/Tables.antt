@@ -1,5 +1,5 @@
 -- What the tables of rates and periods have at the place of a logarithm.
-use Rattle.std.proofs.Common.{◌≡◌, ◌≤◌, ℕ, suc, zero, ◌*◌, List, [], ◌∷◌, get_or, refl, arith, leb, Bool, true, ◌&&◌, ℤ, pos, negsuc}
+use Rattle.std.proofs.Common.{◌≡◌, ◌≤◌, ℕ, suc, zero, ◌*◌, List, [], ◌∷◌, get_or, refl, arith, leb, true, ◌&&◌, ℤ, pos, negsuc}
 use Rattle.std.proofs.lemmas.{Bool.{and_parts, leb-true}, Int.{ints}}
 use Rattle.ptu_units.specs.Log.{IsLog, place_of, rate_of, period_of}
 

@@ -32,6 +32,9 @@ impl Capacity {
     /// The greatest.
     pub const GREATEST: u64 = 1 << 24;
 
+    /// A capacity for tests and examples: half a message per second.
+    pub const SAMPLE: Capacity = Capacity { sixteenths: 8 };
+
     /// The capacity of so many sixteenths of a message per second, or `None` outside 1 to 2^24.
     pub fn of(sixteenths: u64) -> Option<Capacity>
         ensures { SomeIff result (IsCapacity sixteenths) sixteenths }
@@ -78,6 +81,12 @@ impl GrantSeconds {
 
     /// The greatest.
     pub const GREATEST: u32 = 1000;
+
+    /// The longest grant of a grandmaster whose settings name none.
+    pub const LONGEST: GrantSeconds = GrantSeconds { seconds: 1000 };
+
+    /// What a slave requests whose settings name no duration.
+    pub const REQUESTED: GrantSeconds = GrantSeconds { seconds: 300 };
 
     /// The duration of so many seconds, or `None` outside 60 to 1000.
     pub fn of(seconds: u64) -> Option<GrantSeconds>

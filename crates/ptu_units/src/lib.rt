@@ -18,7 +18,7 @@ pub mod timescale;
 pub use kind::Kind;
 pub use leases::{Capacity, GrantSeconds};
 pub use listed::Listed;
-pub use log::{Log, period, rate};
+pub use log::{AnnounceLog, Log, period, rate};
 pub use memory::OutOfMemory;
 pub use moment::Moment;
 pub use nodes::{Epoch, Senders};

@@ -2,6 +2,7 @@
 
 ghost use Rattle.std.specs.{Prelude.{◌≡◌, ◌*◌, ◌≤◌}, Option.{SomeIff}};
 ghost use Rattle.ptu_units.specs.Log.{IsLog, IsLogOf, place_of, rate_of, period_of};
+ghost use Rattle.ptu_units.specs.declared.kind.Kind.TheVariants.{Announce};
 
 use crate::kind::Kind;
 use std::marker::Model;
@@ -77,6 +78,44 @@ impl Log {
         ensures range { IsLog self }
     {
         (self.value + 7) as usize
+    }
+}
+
+/// The logarithm to base 2 of a mean interval of Announces in seconds, from -3 to 4. A clause sees
+/// it as that number.
+#[derive(Clone, Copy, Debug, PartialEq, Eq)]
+pub struct AnnounceLog {
+    log: Log,
+}
+
+impl Model for AnnounceLog {
+    ghost use Rattle.std.specs.Prelude.{ℤ};
+    ghost use Rattle.ptu_units.specs.{Log.{IsLogOf}, declared.kind.Kind.TheVariants.{Announce}};
+
+    ghost Value = { ℤ };
+
+    ghost view = { λ it. it.log };
+
+    ghost invariant = { λ it. IsLogOf Announce it.log };
+
+    ghost inverse = { λ z. record { log = z } };
+}
+
+impl AnnounceLog {
+    /// The logarithm of this value, or `None` outside -3 to 4.
+    pub fn of(value: i8) -> Option<AnnounceLog>
+        ensures { SomeIff result (IsLogOf Announce value) value }
+    {
+        let log = Log::of(Kind::Announce, value)?;
+        Some(AnnounceLog { log })
+    }
+
+    /// The logarithm.
+    pub fn get(self) -> Log
+        ensures value { result ≡ self }
+        ensures range { IsLogOf Announce self }
+    {
+        self.log
     }
 }
 

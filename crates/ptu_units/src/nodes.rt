@@ -29,6 +29,9 @@ impl Senders {
     /// The greatest.
     pub const GREATEST: u8 = 4;
 
+    /// The lanes of a grandmaster whose settings name none: all is done on one thread.
+    pub const DEFAULT: Senders = Senders { lanes: 0 };
+
     /// So many lanes, or `None` above 4.
     pub fn of(lanes: u64) -> Option<Senders>
         ensures { SomeIff result (IsSenders lanes) lanes }

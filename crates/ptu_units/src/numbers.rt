@@ -135,6 +135,12 @@ impl UdpPortNumber {
     /// The greatest.
     pub const GREATEST: u16 = 65535;
 
+    /// The UDP port of event messages (IEEE 1588-2019 clause C.2).
+    pub const EVENT: UdpPortNumber = UdpPortNumber { number: 319 };
+
+    /// The UDP port of general messages (IEEE 1588-2019 clause C.2).
+    pub const GENERAL: UdpPortNumber = UdpPortNumber { number: 320 };
+
     /// The UDP port of this number, or `None` outside 1 to 65535.
     pub fn of(number: u64) -> Option<UdpPortNumber>
         ensures { SomeIff result (IsUdpPort number) number }

@@ -33,6 +33,9 @@ impl ReceiptTimeout {
     /// The greatest.
     pub const GREATEST: u8 = 10;
 
+    /// The timeout of a slave whose settings name none.
+    pub const DEFAULT: ReceiptTimeout = ReceiptTimeout { periods: 3 };
+
     /// The timeout of so many periods, or `None` outside 2 to 10.
     pub fn of(periods: u64) -> Option<ReceiptTimeout>
         ensures { SomeIff result (IsTimeout periods) periods }
@@ -81,6 +84,9 @@ impl Model for WaitToRestore {
 impl WaitToRestore {
     /// The greatest.
     pub const GREATEST: u32 = 720;
+
+    /// The wait of a slave whose settings name none.
+    pub const DEFAULT: WaitToRestore = WaitToRestore { seconds: 300 };
 
     /// The wait of so many seconds, or `None` above 720.
     pub fn of(seconds: u64) -> Option<WaitToRestore>

@@ -2,6 +2,7 @@
 use Rattle.std.specs.Prelude.{◌≢◌, ◌⊎◌, ◌≤◌, Bool, true, false, not, ◌&&◌, ◌||◌, is_some, IsTrue, if◌then◌else◌, List, [], ◌∷◌, codes, Option, Some, None, option_and_then, option_map}
 use Rattle.std.specs.Str.{bytes_eq}
 use Rattle.clap.specs.Words.{App, Kinds, Row, Text, fault_of, first_of, new_app, new_rule, subcommand_of, with_rule, with_subcommand}
+use Rattle.ptu_units.specs.Limits.{IsCapacity, greatest_capacity, least_capacity}
 use Rattle.ptu_lines.specs.Words.{number_within}
 use Rattle.ptu_words.specs.declared.command.Command.{Command}
 use Rattle.ptu_words.specs.declared.command.Command.TheVariants.{Replay, Show, Load, Serve, Slave, Join, Audit, Pools}
@@ -40,10 +41,10 @@ abbrev pub load_of : Option Text → Option Command
 load_of None = None
 load_of (Some value) = option_map Load (number_within value 1 2000)
 
--- an audit with the capacity that the value writes, from 1 to 16777216
+-- an audit with the capacity that the value writes
 abbrev pub audit_of : Option Text → Option Command
 audit_of None = None
-audit_of (Some value) = option_map Audit (number_within value 1 16777216)
+audit_of (Some value) = option_map Audit (number_within value least_capacity greatest_capacity)
 
 -- where it has a number, that is in its range
 abbrev pub IsInRange : Command → Type 0
@@ -53,7 +54,7 @@ IsInRange (Load number) = (1 ≤ number) × (number ≤ 2000)
 IsInRange Serve = Unit {0}
 IsInRange Slave = Unit {0}
 IsInRange Join = Unit {0}
-IsInRange (Audit capacity) = (1 ≤ capacity) × (capacity ≤ 16777216)
+IsInRange (Audit capacity) = IsCapacity capacity
 IsInRange Pools = Unit {0}
 
 -- the command of a name, with this value

@@ -4,6 +4,7 @@ ghost use Rattle.std.specs.Prelude.{◌≡◌, ◌≤◌, IfSome, option_map};
 ghost use Rattle.ptu_words.specs.CommandLine.{IsInRange, audit_of, command_named, load_of};
 
 use ptu_lines::number;
+use ptu_units::Capacity;
 
 /// What the words ask the program for.
 #[derive(Clone, Copy, Debug, PartialEq, Eq)]
@@ -20,9 +21,8 @@ pub enum Command {
     Slave,
     /// Join the halves of Syncs that were sent in two steps.
     Join,
-    /// Audit a report whose grandmasters begin with this capacity, in sixteenths of a message per
-    /// second, from 1 to 16777216.
-    Audit(u64),
+    /// Audit a report whose grandmasters begin with this capacity.
+    Audit(Capacity),
     /// Run a script of one grandmaster whose capacity is sold to several customers.
     Pools,
 }
@@ -41,8 +41,8 @@ fn audit(value: Option<&str>) -> Option<Command>
     ensures audit { result ≡ audit_of (option_map (λ v. v.now) value.entry) }
     ensures range { IfSome result IsInRange }
 {
-    let capacity = number(value?.as_bytes(), 1, 16777216)?;
-    Some(Command::Audit(capacity))
+    let capacity = number(value?.as_bytes(), Capacity::LEAST, Capacity::GREATEST)?;
+    Some(Command::Audit(Capacity::of(capacity)?))
 }
 
 impl Command {

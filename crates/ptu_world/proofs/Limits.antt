@@ -2,14 +2,14 @@
 use Rattle.std.proofs.Common.{◌≡◌, ℕ, ◌≤◌, ◌&&◌, List, Option, Some, None, Result, Ok, Err, IfOk, IfSome, ◌-◌, ◌^◌, Bool, true, false, cond, leb, refl, subst, option_and_then, leb-true}
 use Rattle.std.proofs.lemmas.Bool.{and_parts}
 use Rattle.ptu_lines.specs.Words.{within, number_of, word_of, ip_of, clock_of, octets_of}
-use Rattle.ptu_units.specs.Limits.{IsCapacity}
+use Rattle.ptu_units.specs.Limits.{IsCapacity, greatest_capacity, least_capacity, greatest_domain, least_domain, greatest_duration, least_duration, greatest_port, least_port}
 use Rattle.ptu_script.specs.declared.{cause.Cause.{Cause}, command.Command.{Command}}
 use Rattle.ptu_script.specs.declared.act.Act.TheVariants as acts
 use Rattle.ptu_script.specs.declared.command.Command.TheVariants as commands
 use Rattle.ptu_script.specs.declared.{command.GrandmasterSetup.{GrandmasterSetup}, verb.Verb.{Verb}}
 use Rattle.ptu_script.specs.declared.verb.Verb.TheVariants.{Gm, Slave, Master, Rx, Deliver, Turn, Tick, Flag, Judge, Stop, Class, Capacity}
 use Rattle.ptu_script.specs.Command.{command_by, command_of, fields_in, grandmaster_in, has_count, is_comment, moment_of, slave_in}
-use Rattle.ptu_script.specs.Fields.{◌>>=◌, field, from_to, or_field, rule_named, truth_of}
+use Rattle.ptu_script.specs.Fields.{◌>>=◌, capacity_of, domain_of, duration_of, field, from_to, or_field, port_number_of, rule_named, truth_of}
 use Rattle.ptu_script.specs.{Limits.{IsGrandmasterWithin}, Verb.{counts_of}}
 
 -- ---- what is found through another
@@ -64,16 +64,16 @@ grandmaster_within line =
     let P = IsGrandmasterWithin in
     ok_bound P (field 2 ip_of line) _ (λ ip _.
     ok_bound P (field 3 clock_of line) _ (λ clock _.
-    ok_bound P (field 4 (from_to 1 65534) line) _ (λ port is_port.
-    ok_bound P (field 5 (from_to 4 23) line) _ (λ domain is_domain.
+    ok_bound P (field 4 port_number_of line) _ (λ port is_port.
+    ok_bound P (field 5 domain_of line) _ (λ domain is_domain.
     ok_bound P (field 6 (from_to 0 255) line) _ (λ class _.
-    ok_bound P (field 7 (from_to 1 16777216) line) _ (λ capacity is_capacity.
-    ok_bound P (field 8 (from_to 60 1000) line) _ (λ longest is_longest.
+    ok_bound P (field 7 capacity_of line) _ (λ capacity is_capacity.
+    ok_bound P (field 8 duration_of line) _ (λ longest is_longest.
     record {
-      port = number_is 1 65534 4 port line is_port;
-      domain = number_is 4 23 5 domain line is_domain;
-      capacity = number_is 1 16777216 7 capacity line is_capacity;
-      max_duration = number_is 60 1000 8 longest line is_longest;
+      port = number_is least_port greatest_port 4 port line is_port;
+      domain = number_is least_domain greatest_domain 5 domain line is_domain;
+      capacity = number_is least_capacity greatest_capacity 7 capacity line is_capacity;
+      max_duration = number_is least_duration greatest_duration 8 longest line is_longest;
     })))))))
 
 fields_within : (verb : Verb) (line : List ℕ) → IfOk (fields_in verb line) IsWithin
@@ -94,7 +94,7 @@ fields_within Judge line = ok_bound IsWithin (field 2 moment_of line) _ (λ x0 _
 fields_within Stop line = ok_bound IsWithin (field 2 moment_of line) _ (λ x0 _. ok_bound IsWithin (field 3 ip_of line) _ (λ x1 _. tt))
 fields_within Class line = ok_bound IsWithin (field 2 ip_of line) _ (λ x0 _. ok_bound IsWithin (field 3 (from_to 0 255) line) _ (λ x1 _. tt))
 fields_within Capacity line = ok_bound IsWithin (field 2 moment_of line) _ (λ x0 _. ok_bound IsWithin (field 3 ip_of line) _ (λ x1 _.
-    ok_bound IsWithin (field 4 (from_to 1 16777216) line) _ (λ capacity e. number_is 1 16777216 4 capacity line e)))
+    ok_bound IsWithin (field 4 capacity_of line) _ (λ capacity e. number_is least_capacity greatest_capacity 4 capacity line e)))
 
 by_verb : (verb : Option Verb) (line : List ℕ) → IfOk (command_by verb line) IsWithin
 by_verb None line = tt

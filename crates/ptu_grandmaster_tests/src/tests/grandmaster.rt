@@ -1,12 +1,11 @@
 ghost use Rattle.std.specs.{Prelude.{IfOk}, List.{All}};
-ghost use Rattle.ptu_units.specs.Limits.{IsCapacity};
 ghost use Rattle.ptu_grandmaster.specs.Driven.{IsPossible};
 
 use ptu_grandmaster::{Gm, GmEvent, Reply, Taken, drive};
 use ptu_outside::{Datagram, MemPort};
 use ptu_shard::samples::{CONFIG, SECOND};
 use ptu_shard::{Answered, Turned};
-use ptu_units::Moment;
+use ptu_units::{Capacity, Moment};
 use std::alloc::Global;
 use std::process::Abort;
 use std::test::Fail;
@@ -29,6 +28,11 @@ const DELAY_REQ: &str = "0112002c040004000000000000000000000000000a0000000000001
 
 fn moment(nanos: u64) -> Result<Moment, Fail> {
     Ok(Moment::of(nanos).ok_or("a moment is below 2^62")?)
+}
+
+// A capacity of so many sixteenths of a message per second.
+fn capacity(sixteenths: u64) -> Result<Capacity, Fail> {
+    Ok(Capacity::of(sixteenths).ok_or("a capacity is within its limits")?)
 }
 
 // A Signaling of so many octets of the client at this address to every port, with these TLVs.
@@ -54,13 +58,14 @@ fn port(alloc: Global, fails: Vec<u64>) -> MemPort {
 }
 
 // A grandmaster of capacity 16, whose port 2 and port of replies fail at the listed sends.
-fn grandmaster(alloc: Global, fails: Vec<u64>, reply_fails: Vec<u64>) -> Gm<MemPort> {
+fn grandmaster(alloc: Global, fails: Vec<u64>, reply_fails: Vec<u64>) -> Result<Gm<MemPort>, Fail> {
+    let capacity = capacity(16)?;
     let p0 = port(alloc, Vec::new(alloc));
     let p1 = port(alloc, Vec::new(alloc));
     let p2 = port(alloc, fails);
     let p3 = port(alloc, Vec::new(alloc));
     let reply = port(alloc, reply_fails);
-    Gm::new(alloc, CONFIG, 16, p0, p1, p2, p3, reply)
+    Ok(Gm::new(alloc, CONFIG, capacity, p0, p1, p2, p3, reply))
 }
 
 // What a close counts: the share of each table, their total, the grants and the refusals.
@@ -94,7 +99,7 @@ fn is_answered(
 // Changes the capacity to 8: how many grants are shed, how many CANCELs are sent, and how many
 // fail.
 fn change(gm: &mut Gm<MemPort>, nanos: u64) -> Result<(usize, u64, u64), Fail> {
-    let changed = gm.set_capacity(moment(nanos)?, 8)?;
+    let changed = gm.set_capacity(moment(nanos)?, capacity(8)?)?;
     let counts = (changed.shed.list().len(), changed.sent, changed.failed);
     drop(changed);
     Ok(counts)
@@ -123,7 +128,7 @@ fn assert_sent_and_cancelled(
 #[test]
 fn a_failed_send_spends_its_period(rt: HostRuntime) -> Result<(), Fail> {
     let alloc = rt.alloc();
-    let mut gm = grandmaster(alloc, vec![in alloc; 1]?, Vec::new(alloc));
+    let mut gm = grandmaster(alloc, vec![in alloc; 1]?, Vec::new(alloc))?;
     let done = assert_sent_and_cancelled(&rt, alloc, &mut gm);
     assert!(rt; close(gm) == ([0; 4], 0, 1, 0));
     done
@@ -141,7 +146,7 @@ fn assert_shed(rt: &impl Abort, alloc: Global, gm: &mut Gm<MemPort>) -> Result<(
 #[test]
 fn a_close_counts_what_is_held_granted_and_refused(rt: HostRuntime) -> Result<(), Fail> {
     let alloc = rt.alloc();
-    let mut gm = grandmaster(alloc, Vec::new(alloc), Vec::new(alloc));
+    let mut gm = grandmaster(alloc, Vec::new(alloc), Vec::new(alloc))?;
     let done = assert_shed(&rt, alloc, &mut gm);
     assert!(rt; close(gm) == ([0, 0, 8, 0], 8, 2, 1));
     done
@@ -170,7 +175,7 @@ fn assert_failures(rt: &impl Abort, alloc: Global, gm: &mut Gm<MemPort>) -> Resu
 #[test]
 fn failed_sends_are_told(rt: HostRuntime) -> Result<(), Fail> {
     let alloc = rt.alloc();
-    let mut gm = grandmaster(alloc, vec![in alloc; 1]?, vec![in alloc; 1, 2]?);
+    let mut gm = grandmaster(alloc, vec![in alloc; 1]?, vec![in alloc; 1, 2]?)?;
     let done = assert_failures(&rt, alloc, &mut gm);
     assert!(rt; close(gm) == ([0; 4], 0, 1, 0));
     done
@@ -193,16 +198,25 @@ fn turn(t: Moment) -> GmEvent
 }
 
 // How many timing messages a grandmaster of this capacity sends over these events.
-fn sent_over(alloc: Global, capacity: u64, events: &[GmEvent]) -> Result<u64, Fail>
-    requires capacity { IsCapacity capacity }
-    requires possible { All IsPossible events.now }
+fn sent_over(alloc: Global, sixteenths: u64, events: &[GmEvent]) -> Result<u64, Fail>
+    requires { All IsPossible events.now }
 {
     let p0 = port(alloc, Vec::new(alloc));
     let p1 = port(alloc, Vec::new(alloc));
     let p2 = port(alloc, Vec::new(alloc));
     let p3 = port(alloc, Vec::new(alloc));
     let reply = port(alloc, Vec::new(alloc));
-    let driven = drive(alloc, CONFIG, capacity, p0, p1, p2, p3, reply, events)?;
+    let driven = drive(
+        alloc,
+        CONFIG,
+        capacity(sixteenths)?,
+        p0,
+        p1,
+        p2,
+        p3,
+        reply,
+        events,
+    )?;
     let sent = driven.sent;
     drop(driven);
     Ok(sent)

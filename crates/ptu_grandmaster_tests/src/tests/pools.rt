@@ -1,8 +1,25 @@
 use ptu_outside::MemPort;
 use ptu_pools::{Pool, Pools, PoolsFault};
 use ptu_shard::samples::CONFIG;
+use ptu_units::Capacity;
 use std::alloc::Global;
 use std::test::Fail;
+
+// A pool of a test: its address, its bits, and its capacity in sixteenths of a message per second.
+#[derive(Clone, Copy)]
+struct Row {
+    net: u32,
+    bits: u8,
+    capacity: u64,
+}
+
+fn pool(row: Row) -> Result<Pool, Fail> {
+    Ok(Pool {
+        net: row.net,
+        bits: row.bits,
+        capacity: Capacity::of(row.capacity).ok_or("a capacity is within its limits")?,
+    })
+}
 
 // Pools of a grandmaster of this capacity.
 fn made(
@@ -15,28 +32,25 @@ fn made(
         let (waiting, sends, receives) = (Vec::new(alloc), Vec::new(alloc), Vec::new(alloc));
         ports.push(MemPort::new(alloc, waiting, sends, receives))?;
     }
-    let fit = pools
-        .iter()
-        .all(|p| 1 <= p.capacity && p.capacity <= 16_777_216);
-    if pools.is_empty() || pools.len() > 16 || !fit || ports.len() != 5 * pools.len() {
-        return Err(Fail::new("1 to 16 pools with capacities within their limits"));
+    if pools.is_empty() || pools.len() > 16 || ports.len() != 5 * pools.len() {
+        return Err(Fail::new("1 to 16 pools with five ports each"));
     }
     Ok(Pools::new(alloc, CONFIG, capacity, pools, ports))
 }
 
 // A pool within the capacity of 17, a second one, and one of all addresses.
-const FIRST: Pool = Pool {
+const FIRST: Row = Row {
     net: 0x0a00_0100,
     bits: 24,
     capacity: 8,
 };
 
-const SECOND: Pool = Pool {
+const SECOND: Row = Row {
     net: 0x0a00_0200,
     ..FIRST
 };
 
-const ALL: Pool = Pool {
+const ALL: Row = Row {
     net: 0,
     bits: 0,
     capacity: 8,
@@ -44,36 +58,36 @@ const ALL: Pool = Pool {
 
 // One within the second, one whose address has bits behind its net, one of more bits than an
 // address has, and two of addresses of their own.
-const WITHIN: Pool = Pool {
+const WITHIN: Row = Row {
     net: 0x0a00_0201,
     bits: 32,
     capacity: 1,
 };
 
-const BEHIND: Pool = Pool {
+const BEHIND: Row = Row {
     net: 0x0a00_0301,
     bits: 24,
     capacity: 1,
 };
 
-const TOO_LONG: Pool = Pool {
+const TOO_LONG: Row = Row {
     net: 0,
     bits: 33,
     capacity: 1,
 };
 
-const OVER: Pool = Pool {
+const OVER: Row = Row {
     net: 0x0a00_0300,
     bits: 24,
     capacity: 2,
 };
 
-const LAST: Pool = Pool {
+const LAST: Row = Row {
     capacity: 1,
     ..OVER
 };
 
-const CASES: [([Pool; 3], Option<PoolsFault>); 7] = [
+const CASES: [([Row; 3], Option<PoolsFault>); 7] = [
     (
         [FIRST, SECOND, ALL],
         Some(PoolsFault::Overlap {
@@ -104,7 +118,8 @@ const CASES: [([Pool; 3], Option<PoolsFault>); 7] = [
 // Which pools are at fault, and their sum: of these a report has the cause alone.
 #[test]
 fn pools_are_refused(rt: HostRuntime) -> Result<(), Fail> {
-    for (pools, fault) in CASES {
+    for ([first, second, third], fault) in CASES {
+        let pools = [pool(first)?, pool(second)?, pool(third)?];
         assert_eq!(rt; made(rt.alloc(), 17, &pools)?.err(), fault);
     }
     Ok(())

@@ -45,7 +45,7 @@ returns-clause-shed g c = λ opening h s.
     let swept = four_swept opening (book_moment h) at c.args.s0.now c.args.s1.now c.args.s2.now c.args.s3.now c.sweep_all.new.s0 c.sweep_all.new.s1 c.sweep_all.new.s2 c.sweep_all.new.s3
     c.args.book.now.capacity c.args.book.now.total h (are_at opening (four c.args.s0.now c.args.s1.now c.args.s2.now c.args.s3.now) c.args.book.now h s) le
     c.sweep_all.ensures.s0 c.sweep_all.ensures.s1 c.sweep_all.ensures.s2 c.sweep_all.ensures.s3 in
-    c.new.ensures ∙ c.shed_above-list.ensures.shed h swept.tables
+    c.new.ensures ∙ rw c.get-2.ensures.value at (c.shed_above-list.ensures.shed h swept.tables)
 
 pub returns-clause-stands : goal.returns-clause-stands
 returns-clause-stands g c = λ opened h s.
@@ -59,7 +59,7 @@ returns-clause-stands g c = λ opened h s.
     let changed : EachStandsAt at (four c.sweep_all.new.s0 c.sweep_all.new.s1 c.sweep_all.new.s2 c.sweep_all.new.s3) (h ++ Capacity at capacity ∷ []) =
     passes_change at capacity c.sweep_all.new.s0 c.sweep_all.new.s1 c.sweep_all.new.s2 c.sweep_all.new.s3 h swept.tables in
     let records_are : (h ++ Capacity at capacity ∷ []) ++ map (shed_at at) items ≡ h ++ Capacity at capacity ∷ map (shed_record at) (shed_grants h at capacity) =
-    records_changed h at capacity items (c.shed_above-list.ensures.shed h swept.tables) in
+    records_changed h at capacity items (rw c.get-2.ensures.value at (c.shed_above-list.ensures.shed h swept.tables)) in
     let each : EachStandsAt at (four c.shed_above-list.new.s0 c.shed_above-list.new.s1 c.shed_above-list.new.s2 c.shed_above-list.new.s3) (h ++ Capacity at capacity ∷ map (shed_record at) (shed_grants h at capacity)) =
     subst (λ h'. EachStandsAt at (four c.shed_above-list.new.s0 c.shed_above-list.new.s1 c.shed_above-list.new.s2 c.shed_above-list.new.s3) h') records_are (c.shed_above-list.ensures.stands (h ++ Capacity at capacity ∷ []) changed) in
     four_stand opened.capacity at c.shed_above-list.new.s0 c.shed_above-list.new.s1 c.shed_above-list.new.s2 c.shed_above-list.new.s3 c.change.new.self (h ++ Capacity at capacity ∷ map (shed_record at) (shed_grants h at capacity)) each

@@ -18,13 +18,13 @@ loop-event-preserved g c =
 pub overflow_add-sent : goal.overflow_add-sent
 overflow_add-sent g c =
     let fits = next_fits c.args.config c.args.capacity c.args.events.now c.loop-event.event-index c.event-item.result c.loop-event.gm c.follow.new.self c.loop-event.sent c.in_ok-more.more c.in_ok-more.failed
-    c.loop-event.invariant c.loop-event-test.true c.event-item.is c.requires.possible c.in_ok-more.ensures.timely c.in_ok-more.ensures.config c.in_ok-more.ensures.follows c.requires.capacity in
+    c.loop-event.invariant c.loop-event-test.true c.event-item.is c.requires.possible c.in_ok-more.ensures.timely c.in_ok-more.ensures.config c.in_ok-more.ensures.follows c.get-sixteenths.ensures.range in
     omega (arith, fits)
 
 pub overflow_add-sent-in-loop-event : goal.overflow_add-sent-in-loop-event
 overflow_add-sent-in-loop-event g c =
     let fits = next_fits c.args.config c.args.capacity c.args.events.now c.loop-event.event-index c.event-item.result c.loop-event.gm c.follow.new.self c.loop-event.sent c.in_ok-more.more c.in_ok-more.failed
-    c.loop-event.invariant c.loop-event-test.true c.event-item.is c.requires.possible c.in_ok-more.ensures.timely c.in_ok-more.ensures.config c.in_ok-more.ensures.follows c.requires.capacity in
+    c.loop-event.invariant c.loop-event-test.true c.event-item.is c.requires.possible c.in_ok-more.ensures.timely c.in_ok-more.ensures.config c.in_ok-more.ensures.follows c.get-sixteenths.ensures.range in
     omega (arith, fits)
 
 pub returns-in_err-more-clause-budget : goal.returns-in_err-more-clause-budget

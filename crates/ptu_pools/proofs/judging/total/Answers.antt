@@ -1,10 +1,5 @@
 use Rattle.std.proofs.Common.{arith}
-use Rattle.ptu_pools.specs.declared.pool.Pool.{Pool}
-use Rattle.ptu_pools.proofs.Sums.{next_fits}
 use Rattle.ptu_pools.proofs.judging.total.Goals as goal
 
 pub overflow_add-sum : goal.overflow_add-sum
-overflow_add-sum c =
-    let none : Pool = record { net = 0; bits = 0; capacity = 0 } in
-    let fits = next_fits c.args.pools.now c.loop-pool.pool-index none c.loop-pool-test.true c.requires.few c.requires.capacities in
-    omega (arith, fits, c.loop-pool.invariant)
+overflow_add-sum c = omega (arith, c.requires, c.loop-pool-test.true, c.loop-pool.invariant.1, c.get-sum.ensures.range.1)

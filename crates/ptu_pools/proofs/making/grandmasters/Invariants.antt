@@ -7,4 +7,4 @@ abbrev pub invariant-loop-pool : goal.invariant-loop-pool
 invariant-loop-pool g l =
     (ports_of_all l.gms.items ++ into_iter_items l.rest ≡ l.fn.ports.items)
     × (length l.gms.items ≡ l.pool-index)
-    × AreFresh l.fn.config l.pools l.gms.items
+    × AreFresh l.config l.pools l.gms.items

@@ -7,7 +7,7 @@ use Rattle.ptu_grandmaster.proofs.gm.Gm.answer_delay.Goals as goal
 
 pub invariant_of-self : goal.invariant_of-self
 invariant_of-self g c =
-    (c.self.invariant.0 ∙ sym (shares_spent (is_answering_row c.answer_delay.new.self.moment c.args.client.now) c.answer_delay.new.self.moment 0 [] c.self.inside.s0 c.answer_delay.new.self (lent_as 1 c.self.inside.s1 ∷ lent_as 2 c.self.inside.s2 ∷ lent_as 3 c.self.inside.s3 ∷ []) c.answer_delay.ensures.rows), c.self.invariant.1)
+    c.self.invariant ∙ sym (shares_spent (is_answering_row c.answer_delay.new.self.moment c.args.client.now) c.answer_delay.new.self.moment 0 [] c.self.inside.s0 c.answer_delay.new.self (lent_as 1 c.self.inside.s1 ∷ lent_as 2 c.self.inside.s2 ∷ lent_as 3 c.self.inside.s3 ∷ []) c.answer_delay.ensures.rows)
 
 pub returns-in-0-clause-met : goal.returns-in-0-clause-met
 returns-in-0-clause-met g c =
@@ -25,7 +25,7 @@ returns-in-0-clause-stands g c =
 
 pub invariant_of-self-in-1 : goal.invariant_of-self-in-1
 invariant_of-self-in-1 g c =
-    (c.self.invariant.0 ∙ sym (shares_spent (is_answering_row c.answer_delay-in-1.new.self.moment c.args.client.now) c.answer_delay-in-1.new.self.moment 1 (lent_as 0 c.self.inside.s0 ∷ []) c.self.inside.s1 c.answer_delay-in-1.new.self (lent_as 2 c.self.inside.s2 ∷ lent_as 3 c.self.inside.s3 ∷ []) c.answer_delay-in-1.ensures.rows), c.self.invariant.1)
+    c.self.invariant ∙ sym (shares_spent (is_answering_row c.answer_delay-in-1.new.self.moment c.args.client.now) c.answer_delay-in-1.new.self.moment 1 (lent_as 0 c.self.inside.s0 ∷ []) c.self.inside.s1 c.answer_delay-in-1.new.self (lent_as 2 c.self.inside.s2 ∷ lent_as 3 c.self.inside.s3 ∷ []) c.answer_delay-in-1.ensures.rows)
 
 pub returns-in-1-clause-met : goal.returns-in-1-clause-met
 returns-in-1-clause-met g c =
@@ -43,7 +43,7 @@ returns-in-1-clause-stands g c =
 
 pub invariant_of-self-in-2 : goal.invariant_of-self-in-2
 invariant_of-self-in-2 g c =
-    (c.self.invariant.0 ∙ sym (shares_spent (is_answering_row c.answer_delay-in-2.new.self.moment c.args.client.now) c.answer_delay-in-2.new.self.moment 2 (lent_as 0 c.self.inside.s0 ∷ lent_as 1 c.self.inside.s1 ∷ []) c.self.inside.s2 c.answer_delay-in-2.new.self (lent_as 3 c.self.inside.s3 ∷ []) c.answer_delay-in-2.ensures.rows), c.self.invariant.1)
+    c.self.invariant ∙ sym (shares_spent (is_answering_row c.answer_delay-in-2.new.self.moment c.args.client.now) c.answer_delay-in-2.new.self.moment 2 (lent_as 0 c.self.inside.s0 ∷ lent_as 1 c.self.inside.s1 ∷ []) c.self.inside.s2 c.answer_delay-in-2.new.self (lent_as 3 c.self.inside.s3 ∷ []) c.answer_delay-in-2.ensures.rows)
 
 pub returns-in-2-clause-met : goal.returns-in-2-clause-met
 returns-in-2-clause-met g c =
@@ -61,7 +61,7 @@ returns-in-2-clause-stands g c =
 
 pub invariant_of-self-in_default : goal.invariant_of-self-in_default
 invariant_of-self-in_default g c =
-    (c.self.invariant.0 ∙ sym (shares_spent (is_answering_row c.answer_delay-in_default.new.self.moment c.args.client.now) c.answer_delay-in_default.new.self.moment 3 (lent_as 0 c.self.inside.s0 ∷ lent_as 1 c.self.inside.s1 ∷ lent_as 2 c.self.inside.s2 ∷ []) c.self.inside.s3 c.answer_delay-in_default.new.self [] c.answer_delay-in_default.ensures.rows), c.self.invariant.1)
+    c.self.invariant ∙ sym (shares_spent (is_answering_row c.answer_delay-in_default.new.self.moment c.args.client.now) c.answer_delay-in_default.new.self.moment 3 (lent_as 0 c.self.inside.s0 ∷ lent_as 1 c.self.inside.s1 ∷ lent_as 2 c.self.inside.s2 ∷ []) c.self.inside.s3 c.answer_delay-in_default.new.self [] c.answer_delay-in_default.ensures.rows)
 
 pub returns-in_default-clause-met : goal.returns-in_default-clause-met
 returns-in_default-clause-met g c =

@@ -48,8 +48,8 @@ pub returns-in_ok-set_capacity-in-Capacity-clause-follows : goal.returns-in_ok-s
 returns-in_ok-set_capacity-in-Capacity-clause-follows g c =
     let old = c.args.self.now in
     let t = c.handed-in-Capacity.result in
-    let capacity = c.in-Capacity.capacity in
-    rw (c.in-Capacity.is, ← c.handed-in-Capacity.ensures.value) (λ opening history s.
+    let capacity = c.lent.result in
+    rw (c.in-Capacity.is, ← c.handed-in-Capacity.ensures.value, ← c.lent.ensures.value) (λ opening history s.
     let opened = opened_with opening old.config in (
       rw (history_after-one opened history t (events.Resize capacity)) (c.in_ok-set_capacity-in-Capacity.ensures.stands opening history s),
       change_sent opened history t capacity,

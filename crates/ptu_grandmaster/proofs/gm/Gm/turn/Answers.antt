@@ -7,7 +7,7 @@ use Rattle.ptu_grandmaster.proofs.gm.Gm.turn.Goals as goal
 
 pub invariant_of-self : goal.invariant_of-self
 invariant_of-self g c =
-    (c.self.invariant.0 ∙ sym (shares_spent (is_due_row c.turn.result.at) c.turn.result.at 0 [] c.self.inside.s0 c.turn.new.self (lent_as 1 c.self.inside.s1 ∷ lent_as 2 c.self.inside.s2 ∷ lent_as 3 c.self.inside.s3 ∷ []) c.turn.ensures.rows), c.self.invariant.1)
+    c.self.invariant ∙ sym (shares_spent (is_due_row c.turn.result.at) c.turn.result.at 0 [] c.self.inside.s0 c.turn.new.self (lent_as 1 c.self.inside.s1 ∷ lent_as 2 c.self.inside.s2 ∷ lent_as 3 c.self.inside.s3 ∷ []) c.turn.ensures.rows)
 
 pub returns-in-0-clause-messages : goal.returns-in-0-clause-messages
 returns-in-0-clause-messages g c =
@@ -24,7 +24,7 @@ returns-in-0-clause-stands g c =
 
 pub invariant_of-self-in-1 : goal.invariant_of-self-in-1
 invariant_of-self-in-1 g c =
-    (c.self.invariant.0 ∙ sym (shares_spent (is_due_row c.turn-in-1.result.at) c.turn-in-1.result.at 1 (lent_as 0 c.self.inside.s0 ∷ []) c.self.inside.s1 c.turn-in-1.new.self (lent_as 2 c.self.inside.s2 ∷ lent_as 3 c.self.inside.s3 ∷ []) c.turn-in-1.ensures.rows), c.self.invariant.1)
+    c.self.invariant ∙ sym (shares_spent (is_due_row c.turn-in-1.result.at) c.turn-in-1.result.at 1 (lent_as 0 c.self.inside.s0 ∷ []) c.self.inside.s1 c.turn-in-1.new.self (lent_as 2 c.self.inside.s2 ∷ lent_as 3 c.self.inside.s3 ∷ []) c.turn-in-1.ensures.rows)
 
 pub returns-in-1-clause-messages : goal.returns-in-1-clause-messages
 returns-in-1-clause-messages g c =
@@ -41,7 +41,7 @@ returns-in-1-clause-stands g c =
 
 pub invariant_of-self-in-2 : goal.invariant_of-self-in-2
 invariant_of-self-in-2 g c =
-    (c.self.invariant.0 ∙ sym (shares_spent (is_due_row c.turn-in-2.result.at) c.turn-in-2.result.at 2 (lent_as 0 c.self.inside.s0 ∷ lent_as 1 c.self.inside.s1 ∷ []) c.self.inside.s2 c.turn-in-2.new.self (lent_as 3 c.self.inside.s3 ∷ []) c.turn-in-2.ensures.rows), c.self.invariant.1)
+    c.self.invariant ∙ sym (shares_spent (is_due_row c.turn-in-2.result.at) c.turn-in-2.result.at 2 (lent_as 0 c.self.inside.s0 ∷ lent_as 1 c.self.inside.s1 ∷ []) c.self.inside.s2 c.turn-in-2.new.self (lent_as 3 c.self.inside.s3 ∷ []) c.turn-in-2.ensures.rows)
 
 pub returns-in-2-clause-messages : goal.returns-in-2-clause-messages
 returns-in-2-clause-messages g c =
@@ -58,7 +58,7 @@ returns-in-2-clause-stands g c =
 
 pub invariant_of-self-in_default : goal.invariant_of-self-in_default
 invariant_of-self-in_default g c =
-    (c.self.invariant.0 ∙ sym (shares_spent (is_due_row c.turn-in_default.result.at) c.turn-in_default.result.at 3 (lent_as 0 c.self.inside.s0 ∷ lent_as 1 c.self.inside.s1 ∷ lent_as 2 c.self.inside.s2 ∷ []) c.self.inside.s3 c.turn-in_default.new.self [] c.turn-in_default.ensures.rows), c.self.invariant.1)
+    c.self.invariant ∙ sym (shares_spent (is_due_row c.turn-in_default.result.at) c.turn-in_default.result.at 3 (lent_as 0 c.self.inside.s0 ∷ lent_as 1 c.self.inside.s1 ∷ lent_as 2 c.self.inside.s2 ∷ []) c.self.inside.s3 c.turn-in_default.new.self [] c.turn-in_default.ensures.rows)
 
 pub returns-in_default-clause-messages : goal.returns-in_default-clause-messages
 returns-in_default-clause-messages g c =

@@ -3,9 +3,6 @@ use Rattle.ptu_slave.specs.Seen.{seen}
 use Rattle.ptu_lab.proofs.SlaveMasters.{judges_fresh, master_added, masters_more}
 use Rattle.ptu_lab.proofs.slave_node.SlaveNode.with_master.Goals as goal
 
-pub with_master-requires-clause-limits : goal.with_master-requires-clause-limits
-with_master-requires-clause-limits g c = c.requires.means.1.limits
-
 pub with_master-requires-clause-masters : goal.with_master-requires-clause-masters
 with_master-requires-clause-masters g c =
     let master : Master = record { ip = c.args.ip; priority = c.args.priority } in

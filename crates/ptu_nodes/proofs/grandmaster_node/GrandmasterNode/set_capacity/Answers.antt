@@ -23,5 +23,5 @@ returns-clause-done c =
     c.in_ok-changed.changed.at c.in_ok-changed.changed.shed
     c.args.journal.now c.say.new.self c.say_shed.new.journal c.hand_over_all.new.journal g is
     c.in_ok-reserve.ensures.goes_on c.in_ok-reserve.ensures.idle (hands_whole _ _ _ _ _ _ changed.sends both.0) changed.ports changed.config
-    changed.shed changed.stands c.in_ok-say.ensures (search rules) handed last idle (sure both.1))
+    changed.shed changed.stands (rw c.get.ensures.value at c.in_ok-say.ensures) (search rules) handed last idle (sure both.1))
     c.hand_over_all.ensures.handed c.hand_over_all.ensures.goes_on c.hand_over_all.ensures.idle c.hand_over_all.ensures.sure
