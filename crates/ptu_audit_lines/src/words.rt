@@ -191,8 +191,7 @@ fn lower_clock(word: &[u8]) -> Option<u64>
 fn port(word: &[u8]) -> Option<u16>
     ensures { result ≡ number_within word.now 0 65535 }
 {
-    let port = number(word, 0, 65535)?;
-    Some(port as u16)
+    u16::try_from(number(word, 0, u64::from(u16::MAX))?).ok()
 }
 
 fn identity_of(word: &[u8]) -> Option<(u64, u16)>

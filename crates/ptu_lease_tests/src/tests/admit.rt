@@ -10,7 +10,7 @@ use ptu_outside::samples::idle_port;
 use ptu_shard::Shard;
 use ptu_shard::samples::{CONFIG, SECOND, THREE, TWO};
 use ptu_tlvs::Ask;
-use ptu_units::{Kind, Moment};
+use ptu_units::{Capacity, Kind, Moment};
 use std::alloc::Global;
 use std::process::Abort;
 use std::test::Fail;
@@ -29,15 +29,20 @@ fn table(alloc: Global) -> Shard<MemPort> {
     Shard::new(alloc, idle_port(alloc))
 }
 
-fn open_site(rt: &impl Abort, alloc: Global, capacity: u64) -> Site {
-    assert!(rt; 1 <= capacity && capacity <= 16_777_216);
-    Site {
+// A capacity of so many sixteenths of a message per second.
+fn capacity(sixteenths: u64) -> Result<Capacity, Fail> {
+    Ok(Capacity::of(sixteenths).ok_or("a capacity is within its limits")?)
+}
+
+fn open_site(alloc: Global, sixteenths: u64) -> Result<Site, Fail> {
+    let capacity = capacity(sixteenths)?;
+    Ok(Site {
         s0: table(alloc),
         s1: table(alloc),
         s2: table(alloc),
         s3: table(alloc),
         book: Book::new(capacity),
-    }
+    })
 }
 
 fn moment(nanos: u64) -> Result<Moment, Fail> {
@@ -95,9 +100,8 @@ fn change(
     alloc: Global,
     site: &mut Site,
     t: u64,
-    capacity: u64,
+    sixteenths: u64,
 ) -> Result<Resized, Fail> {
-    assert!(rt; 1 <= capacity && capacity <= 16_777_216);
     check_sum(rt, site);
     Ok(resize(
         alloc,
@@ -107,7 +111,7 @@ fn change(
         &mut site.s3,
         &mut site.book,
         moment(t)?,
-        capacity,
+        capacity(sixteenths)?,
     )?)
 }
 
@@ -166,7 +170,7 @@ fn ask_and_cancel(rt: &impl Abort, site: &mut Site) -> Result<(), Fail> {
 
 #[test]
 fn one_table_alone(rt: HostRuntime) -> Result<(), Fail> {
-    let mut site = open_site(&rt, rt.alloc(), 8);
+    let mut site = open_site(rt.alloc(), 8)?;
     let asked = ask_and_cancel(&rt, &mut site);
     drop(site);
     asked
@@ -218,7 +222,7 @@ fn shed_most(rt: &impl Abort, alloc: Global, site: &mut Site) -> Result<(), Fail
 #[test]
 fn most_of_many_grants_are_shed(rt: HostRuntime) -> Result<(), Fail> {
     let alloc = rt.alloc();
-    let mut site = open_site(&rt, alloc, MANY as u64);
+    let mut site = open_site(alloc, MANY as u64)?;
     let shed = shed_most(&rt, alloc, &mut site);
     drop(site);
     shed

@@ -1,5 +1,5 @@
 use ptu_laws::most_messages;
-use ptu_units::Moment;
+use ptu_units::{Capacity, Moment};
 
 // A capacity, a moment in nanoseconds, and the most messages until then.
 const MOST: [(u64, u64, u64); 4] = [
@@ -12,6 +12,7 @@ const MOST: [(u64, u64, u64); 4] = [
 #[test]
 fn most_messages_of_a_link(rt: HostRuntime) {
     for (capacity, nanos, messages) in MOST {
+        let capacity = Capacity::of(capacity).expect(&rt, "within its limits");
         let moment = Moment::of(nanos).expect(&rt, "below 2^62");
         assert_eq!(rt; most_messages(capacity, moment), messages);
     }

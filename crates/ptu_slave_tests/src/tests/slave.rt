@@ -1,7 +1,6 @@
 //! A slave with a judge of a rule of its own, which no setting names. Rows were made out by hand.
 ghost use Rattle.std.specs.Prelude.{◌≡◌, All, IfOk, length};
 ghost use Rattle.ptu_judges.specs.Held.{IsFresh};
-ghost use Rattle.ptu_profile.specs.Slave.{IsWithinLimits};
 ghost use Rattle.ptu_slave.specs.{Kept.{IsSame}, Seen.{seen}, SeenBy.{seen_by}};
 
 use ptu_header::PortIdentity;
@@ -11,7 +10,9 @@ use ptu_outside::MemPort;
 use ptu_outside::samples::idle_port;
 use ptu_record::Wants;
 use ptu_slave::{Master, Slave, SlaveConfig};
-use ptu_units::{Kind, Log, Moment};
+use ptu_units::{
+    AnnounceLog, Domain, GrantSeconds, Kind, Log, Moment, ReceiptTimeout, WaitToRestore,
+};
 use std::alloc::Global;
 use std::cell::Cell;
 use std::process::Abort;
@@ -32,25 +33,23 @@ const SYNC: &str = "0012002c040004000000000000000000000000000a00000000000001\
 
 // The slave 0a00000000000021 that requests Announce and Sync at the greatest intervals and does not
 // wait after a loss.
-pub(crate) fn config() -> Result<SlaveConfig, Fail>
-    ensures { IfOk result IsWithinLimits }
-{
+pub(crate) fn config() -> Result<SlaveConfig, Fail> {
     Ok(SlaveConfig {
         identity: PortIdentity {
             clock: 0x0a00_0000_0000_0021,
             port: 1,
         },
-        domain: 4,
+        domain: Domain::DEFAULT,
         wants: Wants {
-            announce: Log::of(Kind::Announce, 4).ok_or("in range")?,
+            announce: AnnounceLog::of(4).ok_or("in range")?,
             sync: Log::of(Kind::Sync, 4).ok_or("in range")?,
             delay: None,
-            seconds: 300,
+            seconds: GrantSeconds::REQUESTED,
         },
-        announce_timeout: 3,
-        sync_timeout: 3,
-        delay_timeout: 3,
-        wait: 0,
+        announce_timeout: ReceiptTimeout::DEFAULT,
+        sync_timeout: ReceiptTimeout::DEFAULT,
+        delay_timeout: ReceiptTimeout::DEFAULT,
+        wait: WaitToRestore::of(0).ok_or("in range")?,
     })
 }
 
@@ -132,8 +131,7 @@ pub(crate) fn slave_of_one(
     judge: Box<dyn Judge>,
     port: MemPort,
 ) -> Result<Slave<MemPort>, Fail>
-    requires limits { IsWithinLimits config }
-    requires fresh { IsFresh (held judge) }
+    requires { IsFresh (held judge) }
     ensures one { IfOk result (λ s.
         length (seen held s).kept.masters ≡ 1) }
 {

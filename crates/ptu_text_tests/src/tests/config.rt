@@ -51,8 +51,8 @@ fn settings_of_a_slave(rt: HostRuntime) -> Result<(), Fail> {
     let values = (
         settings.ip,
         settings.clock,
-        settings.wait_to_restore,
-        settings.duration,
+        settings.wait_to_restore.get(),
+        settings.duration.get(),
         settings.log_delay,
     );
     assert!(rt; (settings.rounds, settings.repeat) == (1, 1));
