@@ -6,9 +6,9 @@ use Rattle.ptu_audit.specs.declared.{auditor.Auditor.{Auditor}, deed.Act.{Act}}
 use Rattle.ptu_audit.specs.declared.{deed.Finding.{Finding}, ledger.Ledger.{Ledger}}
 use Rattle.ptu_audit.specs.declared.line.Line.{Line}
 use Rattle.ptu_audit.specs.Groups.{acts_of, groups_of, is_of_script, with_line}
-use Rattle.ptu_audit.specs.Reading.{Reading, last_script, opening}
+use Rattle.ptu_audit.specs.Reading.{Reading, last_script, first_reading}
 use Rattle.ptu_audit.specs.Standing.{AreKept, HasAdded, HasClosed, IsBegun, StandsFor, one_group}
-use Rattle.ptu_audit.specs.Trails.{acts_in, group_finding, groups_finding, or_later}
+use Rattle.ptu_audit.specs.Trails.{acts_in, group_finding, groups_finding, or_later_finding}
 use Rattle.ptu_audit.proofs.Findings.{acts-closed, finding-closed}
 use Rattle.ptu_audit.proofs.Grouping.{begins, begun_more, groups_of-push, joins, last_script-push}
 
@@ -22,7 +22,7 @@ module _ (old new : Auditor) (r : Reading) (s : StandsFor old r) (last : new.las
   closed_found finding is found ledger =
       let there : groups_finding r.capacity [] (groups_of r.lines) ≡ Some finding =
       ap (groups_finding r.capacity []) s.groups ∙ finding-closed r.capacity s.judged old.group.items
-      ∙ ap (λ f. or_later f (group_finding r.capacity (acts_in s.judged) old.group.items)) (sym s.found ∙ is) in
+      ∙ ap (λ f. or_later_finding f (group_finding r.capacity (acts_in s.judged) old.group.items)) (sym s.found ∙ is) in
       record {
         found = found ∙ is ∙ sym there;
         kept = subst (λ f. IfNone f (AreKept new.ledger (acts_in (groups_of r.lines)))) (sym (found ∙ is)) tt;
@@ -44,7 +44,7 @@ module _ (old new : Auditor) (r : Reading) (s : StandsFor old r) (last : new.las
         found =
             finding (acts_in s.judged) ledger ∙ ap (λ n. group_finding n (acts_in s.judged) group) s.capacity
             ∙ ap (group_finding r.capacity (acts_in s.judged)) same
-            ∙ ap (λ f. or_later f (group_finding r.capacity (acts_in s.judged) old.group.items)) (sym is ∙ s.found)
+            ∙ ap (λ f. or_later_finding f (group_finding r.capacity (acts_in s.judged) old.group.items)) (sym is ∙ s.found)
             ∙ sym (ap (groups_finding r.capacity []) s.groups ∙ finding-closed r.capacity s.judged old.group.items);
         kept = if_none_map new.found kept (λ goes. subst (AreKept new.ledger) (sym acts) (goes (acts_in s.judged) ledger));
         capacity = capacity ∙ s.capacity;
@@ -69,7 +69,7 @@ closed_stands a r none h ended = record {
     differ e = absurd cc
 
 -- before any line
-pub nothing_read : (a : Auditor) (capacity : ℕ) → a.group.items ≡ [] → a.found ≡ None → a.last ≡ 0 → a.ended ≡ false → AreKept a.ledger [] → a.ledger.capacity ≡ capacity → StandsFor a (opening capacity)
+pub nothing_read : (a : Auditor) (capacity : ℕ) → a.group.items ≡ [] → a.found ≡ None → a.last ≡ 0 → a.ended ≡ false → AreKept a.ledger [] → a.ledger.capacity ≡ capacity → StandsFor a (first_reading capacity)
 unfolding groups_of last_script
 nothing_read a capacity none found last ended kept same = record {
   judged = [];

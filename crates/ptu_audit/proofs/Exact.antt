@@ -8,11 +8,11 @@ use Rattle.ptu_history.specs.History as history
 use Rattle.ptu_history.specs.History.{Record}
 use Rattle.ptu_laws.specs.Sound.{sheds_at}
 use Rattle.ptu_trail.specs.declared.cause.{Fault.{Fault}, NoCause.{NoCause}, Shedding.{Shedding}}
-use Rattle.ptu_trail.specs.Faults.{behind, fault_of, first_fault, is_shedding, message_to, or_behind, record_of}
+use Rattle.ptu_trail.specs.Faults.{behind, fault_of, first_fault, is_shed_record, message_to, or_behind, record_of}
 use Rattle.ptu_audit.specs.declared.{line.Line.{Line}, deed.Act.{Act}, deed.Deed.{Deed}}
 use Rattle.ptu_audit.specs.declared.deed.Deed.TheVariants.{Granted, Ended, Changed, Sent}
 use Rattle.ptu_audit.specs.Groups.{acts_of}
-use Rattle.ptu_audit.specs.Trails.{AreSound, act_finding, acts_finding, acts_in, finding_of, first_line, group_finding, groups_finding, is_by, or_later, records_of, told_finding, trail_of, trail_with}
+use Rattle.ptu_audit.specs.Trails.{AreSound, act_finding, acts_finding, acts_in, finding_of, first_line, group_finding, groups_finding, is_act_by, or_later_finding, records_of, told_finding, trail_of, trail_with}
 use Rattle.ptu_audit.proofs.Faultless.{AreFaultless, Laws, acts_in-more, faultless, none_both}
 use Rattle.ptu_audit.proofs.Ledgers.{trail_own}
 
@@ -31,7 +31,7 @@ none_whole here later e f = ap (λ h. or_behind h later) e ∙ ap behind f
 
 abbrev IsNoShedding : List Record → Type 0
 IsNoShedding [] = Unit {0}
-IsNoShedding (r ∷ rest) = is_shedding r ≡ false
+IsNoShedding (r ∷ rest) = is_shed_record r ≡ false
 
 no_shedding : (before : List Record) (deed : Deed) (more : List Record) → IsNoShedding (records_of before deed ++ more)
 no_shedding before (Granted at client kind log until) more = refl
@@ -90,9 +90,9 @@ module _ (opening : ℕ) where
 
 -- ---- acts and groups
 
-trail_rest : (g : ℕ) (acts rest : List Act) → trail_of g (acts ++ rest) ≡ fold trail_with (trail_of g acts) (filter (is_by g) rest)
+trail_rest : (g : ℕ) (acts rest : List Act) → trail_of g (acts ++ rest) ≡ fold trail_with (trail_of g acts) (filter (is_act_by g) rest)
 unfolding trail_of
-trail_rest g acts rest = ap (fold trail_with []) (filter-append (is_by g) acts rest) ∙ fold-append trail_with [] (filter (is_by g) acts) (filter (is_by g) rest)
+trail_rest g acts rest = ap (fold trail_with []) (filter-append (is_act_by g) acts rest) ∙ fold-append trail_with [] (filter (is_act_by g) acts) (filter (is_act_by g) rest)
 
 module _ (laws : Laws) (capacity : ℕ) where
   act_none : (before : List Act) (act : Act) (rest : List Act) → AreFaultless capacity ((before ++ act ∷ []) ++ rest) → act_finding capacity before act ≡ None
@@ -100,9 +100,9 @@ module _ (laws : Laws) (capacity : ℕ) where
       let g = act.grandmaster in
       let trail : List Record = trail_of g before in
       let own : List Record = records_of trail act.deed in
-      let more = later (trail ++ own) (filter (is_by g) rest) in
+      let more = later (trail ++ own) (filter (is_act_by g) rest) in
       let whole : trail_of g ((before ++ act ∷ []) ++ rest) ≡ trail ++ (own ++ more.0) =
-      trail_rest g (before ++ act ∷ []) rest ∙ ap (λ t. fold trail_with t (filter (is_by g) rest)) (trail_own before act)
+      trail_rest g (before ++ act ∷ []) rest ∙ ap (λ t. fold trail_with t (filter (is_act_by g) rest)) (trail_own before act)
       ∙ more.1 ∙ append_assoc trail own more.0 in
       let none : first_fault capacity [] (trail ++ (own ++ more.0)) ≡ None = ap (first_fault capacity []) (sym whole) ∙ laws.first capacity (trail_of g ((before ++ act ∷ []) ++ rest)) (f g) in
       ap (option_map (finding_of act)) (deed_front capacity trail act.deed more.0 more.2 (behind_front capacity [] trail (own ++ more.0) none))
@@ -112,7 +112,7 @@ module _ (laws : Laws) (capacity : ℕ) where
   acts_none before (act ∷ acts) rest f =
       let moved : (before ++ act ∷ acts) ++ rest ≡ ((before ++ act ∷ []) ++ acts) ++ rest = ap (λ a. a ++ rest) (sym (append_assoc before (act ∷ []) acts)) in
       let g : AreFaultless capacity (((before ++ act ∷ []) ++ acts) ++ rest) = subst (AreFaultless capacity) moved f in
-      ap (λ o. or_later o (acts_finding capacity (before ++ act ∷ []) acts)) (act_none before act (acts ++ rest) (subst (AreFaultless capacity) (append_assoc (before ++ act ∷ []) acts rest) g))
+      ap (λ o. or_later_finding o (acts_finding capacity (before ++ act ∷ []) acts)) (act_none before act (acts ++ rest) (subst (AreFaultless capacity) (append_assoc (before ++ act ∷ []) acts rest) g))
       ∙ acts_none (before ++ act ∷ []) acts rest g
 
   told_none : (before : List Act) (line : ℕ) (told : Option (List Act)) (rest : List Act) → IsSome told → AreFaultless capacity ((before ++ unwrap_or told []) ++ rest) → told_finding capacity before line told ≡ None
@@ -128,7 +128,7 @@ module _ (laws : Laws) (capacity : ℕ) where
       let g : AreFaultless capacity (acts_in ((before ++ group ∷ []) ++ groups)) = subst (λ gs. AreFaultless capacity (acts_in gs)) (sym (append_assoc before (group ∷ []) groups)) f in
       let split : acts_in ((before ++ group ∷ []) ++ groups) ≡ (acts_in before ++ unwrap_or (acts_of group) []) ++ acts_in groups =
       acts_in-append (before ++ group ∷ []) groups ∙ ap (λ a. a ++ acts_in groups) (acts_in-more laws before group) in
-      ap (λ o. or_later o (groups_finding capacity (before ++ group ∷ []) groups))
+      ap (λ o. or_later_finding o (groups_finding capacity (before ++ group ∷ []) groups))
       (told_none (acts_in before) (first_line group) (acts_of group) (acts_in groups) told.0 (subst (AreFaultless capacity) split g))
       ∙ groups_none (before ++ group ∷ []) groups told.1 g
 

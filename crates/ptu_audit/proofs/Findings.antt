@@ -6,27 +6,27 @@ use Rattle.std.proofs.lemmas.List.Concat.{flat_map-append}
 use Rattle.ptu_audit.specs.declared.{line.Line.{Line}, deed.Act.{Act}, deed.Finding.{Finding}}
 use Rattle.ptu_audit.specs.{declared.ledger.Ledger.{Ledger}, Groups.{acts_of}}
 use Rattle.ptu_audit.specs.Standing.{AreKept, one_group}
-use Rattle.ptu_audit.specs.Trails.{act_finding, acts_finding, acts_in, group_finding, groups_finding, or_later}
+use Rattle.ptu_audit.specs.Trails.{act_finding, acts_finding, acts_in, group_finding, groups_finding, or_later_finding}
 
-pub or_later-none : (f : Option Finding) → or_later f None ≡ f
+pub or_later-none : (f : Option Finding) → or_later_finding f None ≡ f
 or_later-none None = refl
 or_later-none (Some finding) = refl
 
-or_later-assoc : (a b c : Option Finding) → or_later (or_later a b) c ≡ or_later a (or_later b c)
+or_later-assoc : (a b c : Option Finding) → or_later_finding (or_later_finding a b) c ≡ or_later_finding a (or_later_finding b c)
 or_later-assoc None b c = refl
 or_later-assoc (Some finding) b c = refl
 
 -- ---- groups
 
 groups_finding-push : (capacity : ℕ) (before groups : List (List Line)) (group : List Line)
-    → groups_finding capacity before (groups ++ group ∷ []) ≡ or_later (groups_finding capacity before groups) (group_finding capacity (acts_in (before ++ groups)) group)
+    → groups_finding capacity before (groups ++ group ∷ []) ≡ or_later_finding (groups_finding capacity before groups) (group_finding capacity (acts_in (before ++ groups)) group)
 groups_finding-push capacity before [] group =
     or_later-none (group_finding capacity (acts_in before) group)
     ∙ ap (λ gs. group_finding capacity (acts_in gs) group) (sym (append-nil before))
 groups_finding-push capacity before (x ∷ groups) group =
-    ap (or_later (group_finding capacity (acts_in before) x)) (groups_finding-push capacity (before ++ x ∷ []) groups group)
+    ap (or_later_finding (group_finding capacity (acts_in before) x)) (groups_finding-push capacity (before ++ x ∷ []) groups group)
     ∙ sym (or_later-assoc (group_finding capacity (acts_in before) x) (groups_finding capacity (before ++ x ∷ []) groups) (group_finding capacity (acts_in ((before ++ x ∷ []) ++ groups)) group))
-    ∙ ap (λ gs. or_later (or_later (group_finding capacity (acts_in before) x) (groups_finding capacity (before ++ x ∷ []) groups)) (group_finding capacity (acts_in gs) group)) (append_assoc before (x ∷ []) groups)
+    ∙ ap (λ gs. or_later_finding (or_later_finding (group_finding capacity (acts_in before) x) (groups_finding capacity (before ++ x ∷ []) groups)) (group_finding capacity (acts_in gs) group)) (append_assoc before (x ∷ []) groups)
 
 -- no lines tell nothing
 nothing_found : (capacity : ℕ) (before : List Act) → group_finding capacity before [] ≡ None
@@ -38,11 +38,11 @@ unfolding acts_of
 nothing_told = refl
 
 pub finding-closed : (capacity : ℕ) (judged : List (List Line)) (group : List Line)
-    → groups_finding capacity [] (judged ++ one_group group) ≡ or_later (groups_finding capacity [] judged) (group_finding capacity (acts_in judged) group)
+    → groups_finding capacity [] (judged ++ one_group group) ≡ or_later_finding (groups_finding capacity [] judged) (group_finding capacity (acts_in judged) group)
 finding-closed capacity judged [] =
     ap (groups_finding capacity []) (append-nil judged)
     ∙ sym (or_later-none (groups_finding capacity [] judged))
-    ∙ ap (or_later (groups_finding capacity [] judged)) (sym (nothing_found capacity (acts_in judged)))
+    ∙ ap (or_later_finding (groups_finding capacity [] judged)) (sym (nothing_found capacity (acts_in judged)))
 finding-closed capacity judged (x ∷ xs) = groups_finding-push capacity [] judged (x ∷ xs)
 
 pub acts-closed : (judged : List (List Line)) (group : List Line) → acts_in (judged ++ one_group group) ≡ acts_in judged ++ unwrap_or (acts_of group) []
@@ -67,7 +67,7 @@ module _ (capacity : ℕ) (before acts : List Act) where
   }
 
   next : (place : ℕ) (d : Act) → place < length acts → acts_finding capacity (before ++ take place acts) (drop place acts)
-      ≡ or_later (act_finding capacity (before ++ take place acts) (get_or acts place d)) (acts_finding capacity ((before ++ take place acts) ++ get_or acts place d ∷ []) (drop (place + 1) acts))
+      ≡ or_later_finding (act_finding capacity (before ++ take place acts) (get_or acts place d)) (acts_finding capacity ((before ++ take place acts) ++ get_or acts place d ∷ []) (drop (place + 1) acts))
   next place d lt = ap (acts_finding capacity (before ++ take place acts)) (drop_more acts place d lt)
 
   more : (place : ℕ) (d : Act) → place < length acts → before ++ take (place + 1) acts ≡ (before ++ take place acts) ++ get_or acts place d ∷ []
@@ -81,14 +81,14 @@ module _ (capacity : ℕ) (before acts : List Act) where
       record {
         kept = subst (AreKept new) (ap (λ a. (before ++ take place acts) ++ a ∷ []) one ∙ sym (more place d lt)) kept;
         rest = s.rest ∙ next place d lt
-            ∙ ap (λ o. or_later o (acts_finding capacity ((before ++ take place acts) ++ get_or acts place d ∷ []) (drop (place + 1) acts))) here
+            ∙ ap (λ o. or_later_finding o (acts_finding capacity ((before ++ take place acts) ++ get_or acts place d ∷ []) (drop (place + 1) acts))) here
             ∙ ap (λ b. acts_finding capacity b (drop (place + 1) acts)) (sym (more place d lt));
       }
 
   pub one_found : (place : ℕ) (d : Act) (ledger : Ledger) (finding : Finding) → place < length acts → AreTaken place ledger → Some finding ≡ act_finding capacity (before ++ take place acts) (get_or acts place d)
       → Some finding ≡ acts_finding capacity before acts
   one_found place d ledger finding lt s is =
-      sym (s.rest ∙ next place d lt ∙ ap (λ o. or_later o (acts_finding capacity ((before ++ take place acts) ++ get_or acts place d ∷ []) (drop (place + 1) acts))) (sym is))
+      sym (s.rest ∙ next place d lt ∙ ap (λ o. or_later_finding o (acts_finding capacity ((before ++ take place acts) ++ get_or acts place d ∷ []) (drop (place + 1) acts))) (sym is))
 
   pub all_taken : (place : ℕ) (ledger : Ledger) → length acts ≤ place → AreTaken place ledger → (None ≡ acts_finding capacity before acts) × AreKept ledger (before ++ acts)
   all_taken place ledger le s = (

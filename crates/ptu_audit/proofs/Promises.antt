@@ -27,9 +27,9 @@ use Rattle.ptu_audit.specs.Groups.{act_at, acts_by, acts_of, answered, answered_
 use Rattle.ptu_audit.specs.{Texts.{answer_text, refusal_text}, declared.answer.Answer.{Answer}}
 use Rattle.ptu_audit.specs.declared.answer.Answer.TheVariants as answers
 use Rattle.ptu_audit.specs.declared.deed.Finding.{Finding}
-use Rattle.ptu_audit.specs.Trails.{acts_in, answer_by, answer_of, as_counted, groups_finding, is_by, records_of, trail_of, trail_with}
+use Rattle.ptu_audit.specs.Trails.{acts_in, audit_answer_by, audit_answer_of, as_counted, groups_finding, is_act_by, records_of, trail_of, trail_with}
 use Rattle.ptu_audit.specs.Reading.{Reading, audit_rules, cause_of_line, end_read, is_disordered, line_read, with_entry}
-use Rattle.ptu_audit.specs.Audited.{AllKeepPromises, IsKept, report_lines}
+use Rattle.ptu_audit.specs.Audited.{AllKeepPromises, IsAuditKept, report_lines}
 use Rattle.ptu_audit.proofs.{Exact.{none_from, sound_from}, Faultless.{Laws, faultless}}
 use Rattle.ptu_audit.proofs.Ranges.{IsDecisionInRange, IsSaidInRange, said_within}
 
@@ -187,15 +187,15 @@ records_in before (deeds.Ended at client kind) h = (tt, tt)
 records_in before (deeds.Changed at capacity shed) h = (tt, sheds_in at shed)
 records_in before (deeds.Sent stamp ip kind) h = (tt, tt)
 
-trail_from_in : (g : ℕ) (before : List Record) (acts : List Act) → AreInRange before → AreActs acts → AreInRange (fold trail_with before (filter (is_by g) acts))
+trail_from_in : (g : ℕ) (before : List Record) (acts : List Act) → AreInRange before → AreActs acts → AreInRange (fold trail_with before (filter (is_act_by g) acts))
 trail_from_in g before [] b h = b
 trail_from_in g before (act ∷ acts) b h =
     at (eqb act.grandmaster g)
     (trail_from_in g (trail_with before act) acts (all_append IsInRange before (records_of before act.deed) b (records_in before act.deed h.0)) h.1)
     (trail_from_in g before acts b h.1)
   where
-    at : (own : Bool) → AreInRange (fold trail_with (trail_with before act) (filter (is_by g) acts)) → AreInRange (fold trail_with before (filter (is_by g) acts))
-        → AreInRange (fold trail_with before (cond own (act ∷ filter (is_by g) acts) (filter (is_by g) acts)))
+    at : (own : Bool) → AreInRange (fold trail_with (trail_with before act) (filter (is_act_by g) acts)) → AreInRange (fold trail_with before (filter (is_act_by g) acts))
+        → AreInRange (fold trail_with before (cond own (act ∷ filter (is_act_by g) acts) (filter (is_act_by g) acts)))
     at true own other = own
     at false own other = other
 
@@ -247,16 +247,16 @@ taken r number text after texts (Some (report.End count datagrams)) is e = at r.
 pub record IsRead (r : Reading) (before : ℕ) (lines : List ScriptLine) : Type 0 where
   pub last : Reading
   pub meaning : meaning_after audit_rules r before lines ≡ Some last
-  pub texts : texts_until audit_rules (closing audit_rules) r before lines ≡ answer_text (as_counted (answer_of last.capacity last.lines)) ∷ []
+  pub texts : texts_until audit_rules (closing audit_rules) r before lines ≡ answer_text (as_counted (audit_answer_of last.capacity last.lines)) ∷ []
   pub capacity : last.capacity ≡ r.capacity
   pub in_range : AreLines r.lines → AreLines last.lines
   pub few : length last.lines ≤ length r.lines + length lines
 
 abbrev end_by : Bool → Reading → Outcome Reading AuditCause
-end_by b r = cond b (Goes r (answer_text (as_counted (answer_of r.capacity r.lines)) ∷ [])) (Refuses causes.End)
+end_by b r = cond b (Goes r (answer_text (as_counted (audit_answer_of r.capacity r.lines)) ∷ [])) (Refuses causes.End)
 
 whole_end : (r : Reading) (before n : ℕ) (b : Bool) → end_by b r ≡ end_by b r → ending_at (before + 1) (end_by b r) (λ after. endings.Whole before) ≡ endings.Whole n
-    → (meaning_at (end_by b r) Some ≡ Some r) × (texts_at audit_rules (before + 1) (end_by b r) (λ after. []) ≡ answer_text (as_counted (answer_of r.capacity r.lines)) ∷ [])
+    → (meaning_at (end_by b r) Some ≡ Some r) × (texts_at audit_rules (before + 1) (end_by b r) (λ after. []) ≡ answer_text (as_counted (audit_answer_of r.capacity r.lines)) ∷ [])
 whole_end r before n true is e = (refl, refl)
 whole_end r before n false is e = absurd cc
 
@@ -315,17 +315,17 @@ promises laws kept capacity lines h none g =
 
 -- the answer is yes exactly where the report is sound, and then they kept their promises
 pub answer_kept : Laws → ((opening : ℕ) (trail : List Record) → AreInRange trail → IsFaultless opening trail → KeepsPromises opening trail)
-    → (capacity : ℕ) (input : List ℕ) (lines : List Line) (answer : Answer) → report_lines capacity input ≡ Some lines → AreLines lines → answer ≡ answer_of capacity lines → IsKept capacity input (Ok answer)
+    → (capacity : ℕ) (input : List ℕ) (lines : List Line) (answer : Answer) → report_lines capacity input ≡ Some lines → AreLines lines → answer ≡ audit_answer_of capacity lines → IsAuditKept capacity input (Ok answer)
 answer_kept laws kept capacity input lines (answers.Yes granted sent) is h e =
     let found = none (groups_finding capacity [] (groups_of lines)) e in
     (lines, is, sound_from laws capacity (groups_of lines) found, promises laws kept capacity lines h found)
   where
-    none : (f : Option Finding) → answers.Yes granted sent ≡ answer_by f (acts_in (groups_of lines)) → f ≡ None
+    none : (f : Option Finding) → answers.Yes granted sent ≡ audit_answer_by f (acts_in (groups_of lines)) → f ≡ None
     none None k = refl
     none (Some finding) k = absurd cc
 answer_kept laws kept capacity input lines (answers.No line cause) is h e =
     (lines, is, λ s. found (groups_finding capacity [] (groups_of lines)) e (none_from laws capacity (groups_of lines) s))
   where
-    found : (f : Option Finding) → answers.No line cause ≡ answer_by f (acts_in (groups_of lines)) → f ≡ None → ⊥
+    found : (f : Option Finding) → answers.No line cause ≡ audit_answer_by f (acts_in (groups_of lines)) → f ≡ None → ⊥
     found None k none = absurd cc
     found (Some finding) k none = absurd cc

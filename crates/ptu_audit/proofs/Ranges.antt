@@ -21,7 +21,7 @@ use Rattle.ptu_audit_lines.specs.Words.{◌>>=◌, any_number, field, kind_named
 use Rattle.ptu_audit_lines.specs.Entry.{cancelled_in, capacity_in, decided_in, decision_in, end_in, entry_of, datagram_forms, first_of, granted_in, is_among, slave_forms, line_of, nothing_code_in, nothing_in, numbered_in, other_in, outside_duration_in, outside_log_in, outside_type_in, plain_entry_in, send_in, shed_in, short_in}
 use Rattle.ptu_audit.specs.declared.line.Said.{Said}
 use Rattle.ptu_audit.specs.declared.line.Said.TheVariants as said
-use Rattle.ptu_audit.specs.Lines.{said_by, sent_as, sent_by}
+use Rattle.ptu_audit.specs.Lines.{said_by, sent_as, said_of_body}
 
 -- the logarithm of a grant is in the range of its kind
 abbrev pub IsDecisionInRange : Decision → Type 0
@@ -112,7 +112,7 @@ line_in_range : (line : List ℕ) → IfSome (line_of line) IsLineInRange
 unfolding line_of end_in
 line_in_range line = search (numbered, first, each) depth 30 fits 4000
 
-sent_in_range : (from to : ℕ) (body : Body) → IsSaidInRange (sent_by from to body)
+sent_in_range : (from to : ℕ) (body : Body) → IsSaidInRange (said_of_body from to body)
 sent_in_range from to (bodies.Sync stamp) = tt
 sent_in_range from to (bodies.DelayReq stamp) = tt
 sent_in_range from to (bodies.FollowUp stamp) = tt

@@ -6,12 +6,12 @@ use Rattle.ptu_report.specs.declared.fault.RunFault.{RunFault}
 use Rattle.ptu_report.specs.declared.fault.RunFault.TheVariants.{Line, Read, Write, OutOfMemory}
 use Rattle.ptu_report.specs.{Reported.{HasReported}, Runs.{IfRefused}}
 use Rattle.ptu_audit.specs.declared.answer.AuditCause.{AuditCause}
-use Rattle.ptu_audit.specs.{Audited.{AnswerIsWritten, IsAnswer}, Reading.{audit_rules, opening}}
+use Rattle.ptu_audit.specs.{Audited.{AnswerIsWritten, IsAnswer}, Reading.{audit_rules, first_reading}}
 use Rattle.ptu_audit.proofs.Promises.{refused_read}
 
 module _ {K : Type 0} (written : K → Option (List ℕ)) (handed : K → Option (List (List ℕ))) (old new : K) (capacity : ℕ) (input : List ℕ) where
   abbrev IsReported : RunFault AuditCause → Type 0
-  IsReported fault = IfRefused fault (λ ending. HasReported written handed old new audit_rules (opening capacity) (script_lines input) ending)
+  IsReported fault = IfRefused fault (λ ending. HasReported written handed old new audit_rules (first_reading capacity) (script_lines input) ending)
 
   pub refusal_exact : (fault : RunFault AuditCause) → IsReported fault → IsAnswer capacity input (Err fault)
   refusal_exact (Line number cause) reported = sym reported.ends
@@ -21,7 +21,7 @@ module _ {K : Type 0} (written : K → Option (List ℕ)) (handed : K → Option
 
   pub refusal_written : (fault : RunFault AuditCause) → IsReported fault → AnswerIsWritten written handed old new (Err fault)
   refusal_written (Line number cause) reported =
-      subst (HasPut written handed old new) (refused_read (opening capacity) 0 number cause (script_lines input) (sym reported.ends)) reported.put
+      subst (HasPut written handed old new) (refused_read (first_reading capacity) 0 number cause (script_lines input) (sym reported.ends)) reported.put
   refusal_written Read reported = tt
   refusal_written Write reported = tt
   refusal_written OutOfMemory reported = tt

@@ -10,20 +10,20 @@ use Rattle.ptu_laws.specs.Promises.{KeepsPromises}
 use Rattle.ptu_audit.specs.declared.answer.Answer.{Answer}
 use Rattle.ptu_audit.specs.declared.answer.Answer.TheVariants as answers
 use Rattle.ptu_audit.specs.declared.{answer.AuditCause.{AuditCause}, line.Line.{Line}}
-use Rattle.ptu_audit.specs.{Groups.{groups_of}, Reading.{audit_rules, opening}}
+use Rattle.ptu_audit.specs.{Groups.{groups_of}, Reading.{audit_rules, first_reading}}
 use Rattle.ptu_audit.specs.Texts.{answer_text, refusal_text}
-use Rattle.ptu_audit.specs.Trails.{AreSound, acts_in, answer_of, trail_of}
+use Rattle.ptu_audit.specs.Trails.{AreSound, acts_in, audit_answer_of, trail_of}
 
 -- the lines of a report, where none of it is refused
 abbrev pub report_lines : ℕ → List ℕ → Option (List Line)
-report_lines capacity input = option_map (λ r. r.lines) (meaning_of audit_rules (opening capacity) (script_lines input))
+report_lines capacity input = option_map (λ r. r.lines) (meaning_of audit_rules (first_reading capacity) (script_lines input))
 
 -- no line is refused, and this is the answer to all of them; or this line is the first that is refused
 abbrev pub IsAnswer : ℕ → List ℕ → Result Answer (RunFault AuditCause) → Type 0
 IsAnswer capacity input (Ok answer) =
-    (lines : List Line) × (report_lines capacity input ≡ Some lines) × (answer ≡ answer_of capacity lines)
+    (lines : List Line) × (report_lines capacity input ≡ Some lines) × (answer ≡ audit_answer_of capacity lines)
 IsAnswer capacity input (Err (Refused number cause)) =
-    ending_of audit_rules (opening capacity) (script_lines input) ≡ endings.Refused number cause
+    ending_of audit_rules (first_reading capacity) (script_lines input) ≡ endings.Refused number cause
 IsAnswer capacity input (Err Read) = Unit {0}
 IsAnswer capacity input (Err Write) = Unit {0}
 IsAnswer capacity input (Err OutOfMemory) = Unit {0}
@@ -44,10 +44,10 @@ AllKeepPromises capacity lines = (grandmaster : ℕ) → KeepsPromises capacity 
 
 -- the answer is yes exactly where the report is sound: each group is as it must be, and no grandmaster's trail has a
 -- fault; where it is yes, they kept their promises
-abbrev pub IsKept : ℕ → List ℕ → Result Answer (RunFault AuditCause) → Type 0
-IsKept capacity input (Ok (answers.Yes granted sent)) =
+abbrev pub IsAuditKept : ℕ → List ℕ → Result Answer (RunFault AuditCause) → Type 0
+IsAuditKept capacity input (Ok (answers.Yes granted sent)) =
     (lines : List Line) × (report_lines capacity input ≡ Some lines) × AreSound capacity (groups_of lines)
     × AllKeepPromises capacity lines
-IsKept capacity input (Ok (answers.No line cause)) =
+IsAuditKept capacity input (Ok (answers.No line cause)) =
     (lines : List Line) × (report_lines capacity input ≡ Some lines) × (AreSound capacity (groups_of lines) → ⊥)
-IsKept capacity input (Err fault) = Unit {0}
+IsAuditKept capacity input (Err fault) = Unit {0}

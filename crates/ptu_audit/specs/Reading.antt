@@ -10,7 +10,7 @@ use Rattle.ptu_audit_lines.specs.Entry.{line_of}
 use Rattle.ptu_audit.specs.declared.answer.AuditCause.{AuditCause}
 use Rattle.ptu_audit.specs.declared.answer.AuditCause.TheVariants as causes
 use Rattle.ptu_audit.specs.{declared.line.Line.{Line}, Lines.{said_by}}
-use Rattle.ptu_audit.specs.{Texts.{answer_text, refusal_text}, Trails.{answer_of, as_counted}}
+use Rattle.ptu_audit.specs.{Texts.{answer_text, refusal_text}, Trails.{audit_answer_of, as_counted}}
 
 -- what was read so far: the capacity that each grandmaster begins with, the lines, and whether the `end` line came
 pub record Reading : Type 0 where
@@ -19,8 +19,8 @@ pub record Reading : Type 0 where
   pub ended : Bool
 
 -- before any line
-abbrev pub opening : ℕ → Reading
-opening capacity = record { capacity = capacity; lines = []; ended = false }
+abbrev pub first_reading : ℕ → Reading
+first_reading capacity = record { capacity = capacity; lines = []; ended = false }
 
 -- the number of a script's line in the last of these lines, or 0 before any
 unfoldable pub last_script : List Line → ℕ
@@ -46,7 +46,7 @@ line_read r number (Some (report.End count datagrams)) =
 
 -- what the end does: it wants an `end` line, and then there is an answer
 abbrev pub end_read : Reading → Outcome Reading AuditCause
-end_read r = if r.ended then Goes r (answer_text (as_counted (answer_of r.capacity r.lines)) ∷ []) else Refuses causes.End
+end_read r = if r.ended then Goes r (answer_text (as_counted (audit_answer_of r.capacity r.lines)) ∷ []) else Refuses causes.End
 
 -- a line that is not read: no report has such a line
 abbrev pub cause_of_line : LineCause → AuditCause

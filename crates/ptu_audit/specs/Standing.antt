@@ -7,18 +7,18 @@ use Rattle.ptu_audit.specs.declared.{auditor.Auditor.{Auditor}, deed.Act.{Act}}
 use Rattle.ptu_audit.specs.declared.{ledger.Ledger.{Ledger}, line.Line.{Line}}
 use Rattle.ptu_audit.specs.{Groups.{groups_of}, Reading.{Reading, last_script}}
 use Rattle.ptu_units.specs.Counts.{counted}
-use Rattle.ptu_audit.specs.Trails.{acts_in, groups_finding, grants_in, messages_in, trail_of}
+use Rattle.ptu_audit.specs.Trails.{acts_in, groups_finding, grant_acts_in, message_acts_in, trail_of}
 
 -- the trail stands for these records, or there is none and no record
-abbrev pub IsKept : ℕ → Option Trail → List Record → Type 0
-IsKept capacity None history = history ≡ []
-IsKept capacity (Some trail) history = IsTrail capacity trail history
+abbrev pub IsTrailKept : ℕ → Option Trail → List Record → Type 0
+IsTrailKept capacity None history = history ≡ []
+IsTrailKept capacity (Some trail) history = IsTrail capacity trail history
 
 -- each grandmaster's trail is kept, after these acts, and the grants and messages are counted, as far as a count goes
 pub record AreKept (ledger : Ledger) (acts : List Act) : Type 0 where
-  pub trails : (grandmaster : ℕ) → IsKept ledger.capacity (get nat_cmp ledger.trails grandmaster) (trail_of grandmaster acts)
-  pub granted : ledger.granted ≡ counted (grants_in acts)
-  pub sent : ledger.sent ≡ counted (messages_in acts)
+  pub trails : (grandmaster : ℕ) → IsTrailKept ledger.capacity (get nat_cmp ledger.trails grandmaster) (trail_of grandmaster acts)
+  pub granted : ledger.granted ≡ counted (grant_acts_in acts)
+  pub sent : ledger.sent ≡ counted (message_acts_in acts)
 
 -- a group, where it has a line
 abbrev pub one_group : List Line → List (List Line)

@@ -21,8 +21,8 @@ records_of before (deeds.Ended at client kind) = history.Ended at client kind �
 records_of before (deeds.Changed at capacity shed) = history.Capacity at capacity ∷ map (record_of at) shed
 records_of before (deeds.Sent stamp ip kind) = message_to before stamp ip kind ∷ []
 
-abbrev pub is_by : ℕ → Act → Bool
-is_by grandmaster act = act.grandmaster == grandmaster
+abbrev pub is_act_by : ℕ → Act → Bool
+is_act_by grandmaster act = act.grandmaster == grandmaster
 
 -- a trail after one more act
 abbrev pub trail_with : List Record → Act → List Record
@@ -30,7 +30,7 @@ trail_with before act = before ++ records_of before act.deed
 
 -- the trail of a grandmaster: the records of what it did, in order
 unfoldable pub trail_of : ℕ → List Act → List Record
-trail_of grandmaster acts = fold trail_with [] (filter (is_by grandmaster) acts)
+trail_of grandmaster acts = fold trail_with [] (filter (is_act_by grandmaster) acts)
 
 -- ---- findings
 
@@ -45,15 +45,15 @@ act_finding capacity before act =
     option_map (finding_of act) (first_fault capacity trail (records_of trail act.deed))
 
 -- the first of two findings
-abbrev pub or_later : Option Finding → Option Finding → Option Finding
-or_later None later = later
-or_later (Some finding) later = Some finding
+abbrev pub or_later_finding : Option Finding → Option Finding → Option Finding
+or_later_finding None later = later
+or_later_finding (Some finding) later = Some finding
 
 -- the first finding of acts after others
 abbrev pub acts_finding : ℕ → List Act → List Act → Option Finding
 acts_finding capacity before [] = None
 acts_finding capacity before (act ∷ acts) =
-    or_later (act_finding capacity before act) (acts_finding capacity (before ++ act ∷ []) acts)
+    or_later_finding (act_finding capacity before act) (acts_finding capacity (before ++ act ∷ []) acts)
 
 abbrev pub first_line : List Line → ℕ
 first_line [] = 0
@@ -76,32 +76,32 @@ acts_in groups = flat_map (λ group. unwrap_or (acts_of group) []) groups
 abbrev pub groups_finding : ℕ → List (List Line) → List (List Line) → Option Finding
 groups_finding capacity before [] = None
 groups_finding capacity before (group ∷ groups) =
-    or_later (group_finding capacity (acts_in before) group) (groups_finding capacity (before ++ group ∷ []) groups)
+    or_later_finding (group_finding capacity (acts_in before) group) (groups_finding capacity (before ++ group ∷ []) groups)
 
 -- ---- the answer
 
-abbrev pub is_grant : Deed → Bool
-is_grant (deeds.Granted at client kind log until) = true
-is_grant _ = false
+abbrev pub is_grant_deed : Deed → Bool
+is_grant_deed (deeds.Granted at client kind log until) = true
+is_grant_deed _ = false
 
 abbrev pub is_message : Deed → Bool
 is_message (deeds.Sent stamp ip kind) = true
 is_message _ = false
 
-abbrev pub grants_in : List Act → ℕ
-grants_in acts = count_by (λ act. is_grant act.deed) acts
+abbrev pub grant_acts_in : List Act → ℕ
+grant_acts_in acts = count_by (λ act. is_grant_deed act.deed) acts
 
-abbrev pub messages_in : List Act → ℕ
-messages_in acts = count_by (λ act. is_message act.deed) acts
+abbrev pub message_acts_in : List Act → ℕ
+message_acts_in acts = count_by (λ act. is_message act.deed) acts
 
 -- how many grants and messages there are where nothing was found, and else the finding
-abbrev pub answer_by : Option Finding → List Act → Answer
-answer_by None acts = answers.Yes (grants_in acts) (messages_in acts)
-answer_by (Some finding) acts = answers.No finding.line finding.cause
+abbrev pub audit_answer_by : Option Finding → List Act → Answer
+audit_answer_by None acts = answers.Yes (grant_acts_in acts) (message_acts_in acts)
+audit_answer_by (Some finding) acts = answers.No finding.line finding.cause
 
 -- the answer to the lines of a report, of grandmasters that begin with this capacity
-abbrev pub answer_of : ℕ → List Line → Answer
-answer_of capacity lines = answer_by (groups_finding capacity [] (groups_of lines)) (acts_in (groups_of lines))
+abbrev pub audit_answer_of : ℕ → List Line → Answer
+audit_answer_of capacity lines = audit_answer_by (groups_finding capacity [] (groups_of lines)) (acts_in (groups_of lines))
 
 -- the answer with its counts as far as they go; those of a whole report are exact
 abbrev pub as_counted : Answer → Answer

@@ -3,8 +3,8 @@
 ghost use Rattle.std.specs.Prelude.{◌≡◌, ◌++◌, ◌∷◌, [], ℕ, List, Some};
 ghost use Rattle.ptu_lines.specs.Script.{script_lines};
 ghost use Rattle.ptu_report.specs.{Rules.{texts_of}, Runs.{HasRunThrough}};
-ghost use Rattle.ptu_audit.specs.Audited.{AnswerIsWritten, IsAnswer, IsKept};
-ghost use Rattle.ptu_audit.specs.Reading.{audit_rules, opening};
+ghost use Rattle.ptu_audit.specs.Audited.{AnswerIsWritten, IsAnswer, IsAuditKept};
+ghost use Rattle.ptu_audit.specs.Reading.{audit_rules, first_reading};
 
 use crate::answer::{Answer, AuditFault};
 use crate::auditor::{Auditor, ReportReader};
@@ -39,13 +39,13 @@ pub fn audit<S: Source, K: Sink>(
     // It is yes exactly where the report is sound: each group of lines is as it must be, and no
     // grandmaster's trail has a fault. Then each grandmaster kept its promises.
     ensures promises { (input : List ℕ) → S.left source.old ≡ Some input →
-        IsKept capacity input result }
+        IsAuditKept capacity input result }
     // It was written.
     ensures written { (input : List ℕ) → S.left source.old ≡ Some input →
         AnswerIsWritten K.written K.handed sink.old sink.new result }
     // What was read and written, whatever is answered: where the source failed, nothing.
     ensures ran { HasRunThrough S.Source K.Sink source.old source.new sink.old sink.new audit_rules
-        (opening capacity) (λ input. texts_of audit_rules (opening capacity) (script_lines input))
+        (first_reading capacity) (λ input. texts_of audit_rules (first_reading capacity) (script_lines input))
         result }
 {
     // A trail without a fault is sound.

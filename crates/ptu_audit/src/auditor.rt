@@ -5,9 +5,9 @@ ghost use Rattle.std.specs.{Prelude.{Some, true, false}, Option.{unwrap_or}};
 ghost use Rattle.ptu_report.specs.Rules.{IsOutcome};
 ghost use Rattle.ptu_audit.specs.{declared.line.Line.{Line}, declared.deed.Act.{Act}};
 ghost use Rattle.ptu_audit.specs.Groups.{acts_of as acts_told};
-ghost use Rattle.ptu_audit.specs.Reading.{Reading, audit_rules, cause_of_line, is_disordered, line_read, opening, with_entry};
+ghost use Rattle.ptu_audit.specs.Reading.{Reading, audit_rules, cause_of_line, is_disordered, line_read, first_reading, with_entry};
 ghost use Rattle.ptu_audit.specs.Standing.{AreKept, HasAdded, HasClosed, StandsFor};
-ghost use Rattle.ptu_audit.specs.Trails.{answer_of, as_counted, first_line, group_finding};
+ghost use Rattle.ptu_audit.specs.Trails.{audit_answer_of, as_counted, first_line, group_finding};
 ghost use Rattle.ptu_audit.specs.Lines.{said_by as said_of};
 ghost use Rattle.ptu_audit_lines.specs.declared.entry.ReportLine.TheVariants as report;
 
@@ -30,11 +30,11 @@ use std::marker::Model;
 pub struct ReadingSoFar;
 
 impl Model for ReadingSoFar {
-    ghost use Rattle.ptu_audit.specs.Reading.{Reading, opening};
+    ghost use Rattle.ptu_audit.specs.Reading.{Reading, first_reading};
 
     ghost Value = { Reading };
 
-    ghost view = { λ _. opening 0 };
+    ghost view = { λ _. first_reading 0 };
 }
 
 /// What is left of the lines so far.
@@ -84,7 +84,7 @@ impl Auditor {
     /// An auditor before any line, of grandmasters that begin with this capacity, in sixteenths of
     /// a message per second.
     pub(crate) fn new(alloc: Global, capacity: u64) -> Auditor
-        ensures { StandsFor result (opening capacity) }
+        ensures { StandsFor result (first_reading capacity) }
     {
         Auditor {
             alloc,
@@ -194,7 +194,7 @@ impl Auditor {
     /// `OutOfMemory`.
     pub(crate) fn answer(&mut self) -> Result<Answer, OutOfMemory>
         ensures answer { IfOk result (λ answer. (r : Reading) → StandsFor self.old r →
-            answer ≡ as_counted (answer_of r.capacity r.lines)) }
+            answer ≡ as_counted (audit_answer_of r.capacity r.lines)) }
         ensures stands { OnOk result ((r : Reading) → StandsFor self.old r → r.ended ≡ true →
             StandsFor self.new r) }
     {

@@ -3,16 +3,16 @@
 ghost use Rattle.std.specs.Prelude.{◌≡◌, Some, codes};
 ghost use Rattle.ptu_trail.specs.declared.cause.NoCause.TheVariants.{Reply};
 ghost use Rattle.ptu_audit.specs.declared.answer.Answer.TheVariants.{Yes, No};
-ghost use Rattle.ptu_audit.specs.Samples.{notice, decided, denied_often, ended, syncs_grant, syncs, shed};
+ghost use Rattle.ptu_audit.specs.Samples.{notice, decided, denied_often, ended, syncs_grant, sync_lines, shed};
 
 /// A request that was granted: the GRANT invites a renewal, and is of the kind, the logarithm and
 /// the time that the report names.
 pub fn grants()
-    ensures granted { decided syncs syncs_grant ≡ Some (Yes 1 0) }
-    ensures uninvited { decided syncs (codes "0005000800000000012c0000") ≡ Some (No 1 Reply) }
-    ensures other_log { decided syncs (codes "0005000800010000012c0001") ≡ Some (No 1 Reply) }
-    ensures other_kind { decided syncs (codes "00050008b0000000012c0001") ≡ Some (No 1 Reply) }
-    ensures other_time { decided syncs (codes "0005000800000000012b0001") ≡ Some (No 1 Reply) }
+    ensures granted { decided sync_lines syncs_grant ≡ Some (Yes 1 0) }
+    ensures uninvited { decided sync_lines (codes "0005000800000000012c0000") ≡ Some (No 1 Reply) }
+    ensures other_log { decided sync_lines (codes "0005000800010000012c0001") ≡ Some (No 1 Reply) }
+    ensures other_kind { decided sync_lines (codes "00050008b0000000012c0001") ≡ Some (No 1 Reply) }
+    ensures other_time { decided sync_lines (codes "0005000800000000012b0001") ≡ Some (No 1 Reply) }
 {}
 
 /// A request that was not granted: the GRANT is for no time and invites no renewal, and is of the

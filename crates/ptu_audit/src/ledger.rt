@@ -4,8 +4,8 @@ ghost use Rattle.std.specs.Prelude.{◌≡◌, ◌<◌, ◌^◌, ◌++◌, ◌�
 ghost use Rattle.std.specs.{BTreeMap.{get}, Ordering.{is_eq, nat_cmp}, Prelude.{false}};
 ghost use Rattle.ptu_history.specs.History.{Record};
 ghost use Rattle.ptu_trail.specs.{Faults.{first_fault, or_behind}, Trail.{StandsFor as IsTrail}};
-ghost use Rattle.ptu_audit.specs.{declared.deed.Act.{Act}, Standing.{AreKept, IsKept}};
-ghost use Rattle.ptu_audit.specs.Trails.{act_finding, acts_finding, finding_of, is_grant, is_message, records_of};
+ghost use Rattle.ptu_audit.specs.{declared.deed.Act.{Act}, Standing.{AreKept, IsTrailKept}};
+ghost use Rattle.ptu_audit.specs.Trails.{act_finding, acts_finding, finding_of, is_grant_deed, is_message, records_of};
 ghost use Rattle.ptu_units.specs.Counts.{counted};
 
 use crate::deed::{Act, Deed, Finding};
@@ -86,7 +86,7 @@ impl Ledger {
     // Counts what was done.
     fn count(&mut self, deed: &Deed)
         ensures granted { self.new.granted
-            ≡ (if is_grant deed.now then counted (self.old.granted + 1) else self.old.granted) }
+            ≡ (if is_grant_deed deed.now then counted (self.old.granted + 1) else self.old.granted) }
         ensures sent { self.new.sent
             ≡ (if is_message deed.now then counted (self.old.sent + 1) else self.old.sent) }
         ensures trails { self.new.trails ≡ self.old.trails }
@@ -103,11 +103,11 @@ impl Ledger {
     // fault, or none.
     fn add(&mut self, grandmaster: u32, deed: &Deed) -> Result<Option<Fault>, OutOfMemory>
         ensures fault { IfOk result (λ fault. (history : List Record) →
-            IsKept self.old.capacity (get nat_cmp self.old.trails grandmaster) history →
+            IsTrailKept self.old.capacity (get nat_cmp self.old.trails grandmaster) history →
             fault ≡ first_fault self.old.capacity history (records_of history deed.now)) }
         ensures stands { IfOk result (λ fault. IfNone fault ((history : List Record) →
-            IsKept self.old.capacity (get nat_cmp self.old.trails grandmaster) history →
-            IsKept self.old.capacity (get nat_cmp self.new.trails grandmaster)
+            IsTrailKept self.old.capacity (get nat_cmp self.old.trails grandmaster) history →
+            IsTrailKept self.old.capacity (get nat_cmp self.new.trails grandmaster)
             (history ++ records_of history deed.now))) }
         ensures others { (other : ℕ) → is_eq (nat_cmp grandmaster other) ≡ false →
             get nat_cmp self.new.trails other ≡ get nat_cmp self.old.trails other }

@@ -58,7 +58,7 @@ pub(crate) struct Line {
 
 // What a message says that was sent from an address to another.
 fn sent_by(from: u32, to: u32, body: Body) -> Said
-    ensures { result ≡ specs.sent_by from to body }
+    ensures { result ≡ specs.said_of_body from to body }
 {
     match body {
         Body::Sync(stamp) => Said::Timed {

@@ -2,7 +2,7 @@
 use Rattle.std.proofs.Common.{◌≡◌, ◌∙◌, ℕ, ◌+◌, Bool, true, false, not, ◌&&◌, List, [], ◌∷◌, drop, codes, Option, Some, None, ℤ, pos, refl, sym, ap}
 use Rattle.std.specs.{Prelude.{slice_get, option_and_then, if◌then◌else◌}, Option.{is_some}, Str.{bytes_eq}}
 use Rattle.ptu_lines.specs.Words.{int_within, ip_of, word_of, words_of}
-use Rattle.ptu_audit_lines.specs.Words.{◌>>=◌, any_number, channel_of, field, hex_of, identity_of, is_channel, is_numbered, is_text, kind_named, log_of_kind, log_outside, no_word, octet_log}
+use Rattle.ptu_audit_lines.specs.Words.{◌>>=◌, any_number, channel_of, field, hex_of, identity_in_word, is_channel, is_numbered, is_text, kind_named, log_of_kind, log_outside, no_word, octet_log}
 use Rattle.ptu_audit_lines.specs.Forms.{fit, fits, fits_one, fitting, is_in_place}
 use Rattle.ptu_audit_lines.specs.Entry.{answer_forms, body_forms, cancel_forms, cancelled_in, capacity_in, grant_forms, granted_in, header_forms, heard_forms, ignored_forms, node_forms, nothing_code_in, nothing_in, outside_duration_in, outside_log_in, outside_type_in, send_in, shed_in, short_in}
 use Rattle.ptu_audit_lines.specs.declared.entry.Decision.TheVariants as decisions
@@ -569,12 +569,12 @@ pub shed_read : (line : List ℕ) (kind : Kind) (log : ℤ) (ip : ℕ) (identity
     → field 3 kind_named line ≡ Some kind
     → field 4 (log_of_kind kind) line ≡ Some log
     → field 5 ip_of line ≡ Some ip
-    → field 6 identity_of line ≡ Some identity
+    → field 6 identity_in_word line ≡ Some identity
     → is_some (no_word 7 line) ≡ true
     → shed_in line ≡ Some (entries.Shed kind log (record { ip = ip; clock = identity.0; port = identity.1 }))
 unfolding shed_in fitting
 shed_read line kind log ip identity numbered h2 h3 h4 h5 h6 h7 =
-    let fit : fits (codes "NUM shed KIND LOG IP WORD") line ≡ true = rw (shed_fits line numbered, h2, h3, log_there kind line 4 log h4, h5, word_there identity_of line 6 identity h6, h7) refl in
+    let fit : fits (codes "NUM shed KIND LOG IP WORD") line ≡ true = rw (shed_fits line numbered, h2, h3, log_there kind line 4 log h4, h5, word_there identity_in_word line 6 identity h6, h7) refl in
     rw (fit, h3, h4, h5, h6) refl
 
 pub shed_not_2 : (line : List ℕ) → is_numbered line ≡ true → field 2 (is_text (codes "shed")) line ≡ None → shed_in line ≡ None

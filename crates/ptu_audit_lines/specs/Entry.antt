@@ -8,7 +8,7 @@ use Rattle.ptu_audit_lines.specs.declared.entry.Entry.{Entry}
 use Rattle.ptu_audit_lines.specs.declared.entry.Entry.TheVariants as entries
 use Rattle.ptu_audit_lines.specs.declared.entry.ReportLine.{ReportLine}
 use Rattle.ptu_audit_lines.specs.declared.entry.ReportLine.TheVariants as lines
-use Rattle.ptu_audit_lines.specs.Words.{◌>>=◌, any_number, field, hex_of, identity_of, kind_named, log_of_kind, log_outside}
+use Rattle.ptu_audit_lines.specs.Words.{◌>>=◌, any_number, field, hex_of, identity_in_word, kind_named, log_of_kind, log_outside}
 use Rattle.ptu_audit_lines.specs.Forms.{fits_one, fitting}
 
 -- the first of these that is there
@@ -103,7 +103,7 @@ shed_in line = do
   kind ← field 3 kind_named line
   log ← field 4 (log_of_kind kind) line
   ip ← field 5 ip_of line
-  identity ← field 6 identity_of line
+  identity ← field 6 identity_in_word line
   Some (entries.Shed kind log (record { ip = ip; clock = identity.0; port = identity.1 }))
 
 unfoldable pub send_in : List ℕ → Option Entry

@@ -79,5 +79,5 @@ identity_parts word = do
   Some (clock, port)
 
 -- CLOCK/PORT in one word
-unfoldable pub identity_of : List ℕ → Option (ℕ × ℕ)
-identity_of word = if slice_index word 16 == 47 then identity_parts word else None
+unfoldable pub identity_in_word : List ℕ → Option (ℕ × ℕ)
+identity_in_word word = if slice_index word 16 == 47 then identity_parts word else None

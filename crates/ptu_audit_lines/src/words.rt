@@ -1,5 +1,5 @@
 //! The words of a line, each in the form that its place asks for.
-#![tactic(auto, unfolding(crate::specs::Words::field, crate::specs::Words::is_text, crate::specs::Words::no_word, crate::specs::Words::any_number, crate::specs::Words::kind_named, crate::specs::Words::is_channel, crate::specs::Words::channel_of, crate::specs::Words::octet_log, crate::specs::Words::log_of_kind, crate::specs::Words::log_outside, crate::specs::Words::hex_of, crate::specs::Words::lower_clock, crate::specs::Words::identity_of))]
+#![tactic(auto, unfolding(crate::specs::Words::field, crate::specs::Words::is_text, crate::specs::Words::no_word, crate::specs::Words::any_number, crate::specs::Words::kind_named, crate::specs::Words::is_channel, crate::specs::Words::channel_of, crate::specs::Words::octet_log, crate::specs::Words::log_of_kind, crate::specs::Words::log_outside, crate::specs::Words::hex_of, crate::specs::Words::lower_clock, crate::specs::Words::identity_in_word))]
 
 ghost use Rattle.std.specs.Prelude.{◌≡◌, ◌==◌, ◌≤◌, ◌≤ℤ◌, pos, Some, None, IfSome, MatchOption, option_and_then, option_copied, length, take};
 ghost use Rattle.std.specs.{Option.{is_some}, Str.{bytes_eq}};
@@ -195,7 +195,7 @@ fn port(word: &[u8]) -> Option<u16>
 }
 
 fn identity_of(word: &[u8]) -> Option<(u64, u16)>
-    ensures { result ≡ forms.identity_of word.now }
+    ensures { result ≡ forms.identity_in_word word.now }
 {
     if word.len() <= 16 || word[16] != b'/' {
         return None;
@@ -207,7 +207,7 @@ fn identity_of(word: &[u8]) -> Option<(u64, u16)>
 
 /// The clock identity and the port number that the word with this number is.
 pub fn identity_field(line: &WordList, k: usize) -> Option<(u64, u16)>
-    ensures { result ≡ forms.field k forms.identity_of line.now }
+    ensures { result ≡ forms.field k forms.identity_in_word line.now }
 {
     identity_of(line.word(k)?)
 }

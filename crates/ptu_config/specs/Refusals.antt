@@ -13,11 +13,11 @@ use Rattle.ptu_config.specs.declared.refusal.RefusalLine.{RefusalLine}
 use Rattle.ptu_config.specs.declared.refusal.RefusalLine.TheVariants.{Size, Text, Unknown, Bad}
 
 -- the text of the line
-abbrev pub refusal_text : RefusalLine → List ℕ
-refusal_text Size = codes "settings size\n"
-refusal_text Text = codes "settings text\n"
-refusal_text Unknown = codes "settings unknown\n"
-refusal_text (Bad key) = codes "settings bad " ++ (name_of key ++ codes "\n")
+abbrev pub setting_refusal_text : RefusalLine → List ℕ
+setting_refusal_text Size = codes "settings size\n"
+setting_refusal_text Text = codes "settings text\n"
+setting_refusal_text Unknown = codes "settings unknown\n"
+setting_refusal_text (Bad key) = codes "settings bad " ++ (name_of key ++ codes "\n")
 
 -- the line that names a cause of refusal
 abbrev pub line_of : SettingFault → Option RefusalLine

@@ -4,15 +4,15 @@ use Rattle.toml.specs.Data.{member, no_members}
 use Rattle.ptu_config.specs.declared.key.Key.TheVariants.{Capacity, NewCapacity, Masters}
 use Rattle.ptu_config.specs.Examples.{two_masters}
 use Rattle.ptu_config.specs.declared.refusal.RefusalLine.TheVariants.{Size, Text, Unknown, Bad}
-use Rattle.ptu_config.specs.Refusals.{refusal_text, unjudged}
+use Rattle.ptu_config.specs.Refusals.{setting_refusal_text, unjudged}
 
 abbrev pub LinesAreWritten : Type 0
 LinesAreWritten =
-    (refusal_text Size ≡ codes "settings size\n")
-    × (refusal_text Text ≡ codes "settings text\n")
-    × (refusal_text Unknown ≡ codes "settings unknown\n")
-    × (refusal_text (Bad Capacity) ≡ codes "settings bad capacity\n")
-    × (refusal_text (Bad NewCapacity) ≡ codes "settings bad new_capacity\n")
+    (setting_refusal_text Size ≡ codes "settings size\n")
+    × (setting_refusal_text Text ≡ codes "settings text\n")
+    × (setting_refusal_text Unknown ≡ codes "settings unknown\n")
+    × (setting_refusal_text (Bad Capacity) ≡ codes "settings bad capacity\n")
+    × (setting_refusal_text (Bad NewCapacity) ≡ codes "settings bad new_capacity\n")
 
 -- two masters want a judge of each rule
 abbrev pub AreRefused : Type 0

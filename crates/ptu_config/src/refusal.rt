@@ -1,7 +1,7 @@
 //! The one line of output that refuses settings, such as `settings bad capacity`.
 
 ghost use Rattle.std.specs.Prelude.{Some};
-ghost use Rattle.ptu_config.specs.Refusals.{refusal_text};
+ghost use Rattle.ptu_config.specs.Refusals.{setting_refusal_text};
 
 use crate::key::Key;
 use std::fmt;
@@ -21,7 +21,7 @@ pub enum RefusalLine {
 }
 
 impl fmt::Display for RefusalLine {
-    ghost output = { λ line. Some (refusal_text line) };
+    ghost output = { λ line. Some (setting_refusal_text line) };
 
     fn fmt<W: fmt::Write>(&self, f: &mut fmt::Formatter<W>) -> fmt::Result {
         match self {

@@ -21,12 +21,12 @@ use Rattle.ptu_gm_messages.specs.Deciding.{answer_to, decisions_of, events_of_it
 abbrev pub gm : GmConfig
 gm = record { identity = messages.grandmaster; domain = 4; class = 84; max_duration = 300; epoch = 0 }
 
-abbrev pub ask : ℕ → ℕ → Ask
-ask code log = record { code = code; log = pos log; seconds = 300 }
+abbrev pub sample_ask : ℕ → ℕ → Ask
+sample_ask code log = record { code = code; log = pos log; seconds = 300 }
 
 -- a Signaling to the grandmaster, with a TLV of another type before a REQUEST of Announce at logarithm 1 for 300 s
-abbrev pub request : List ℕ
-request = messages.to_grandmaster 60 (messages.other_octets ++ messages.request_octets)
+abbrev pub request_octets : List ℕ
+request_octets = messages.to_grandmaster 60 (messages.other_octets ++ messages.request_octets)
 
 abbrev pub to_all_ports : List ℕ → List ℕ
 to_all_ports octets = slice_set (slice_set octets 42 0xff) 43 0xff
@@ -34,21 +34,21 @@ to_all_ports octets = slice_set (slice_set octets 42 0xff) 43 0xff
 -- what is heard, and each reason, where no earlier one applies
 abbrev pub DatagramsAreHeard : Type 0
 DatagramsAreHeard =
-    (items_in gm request ≡ Ok (Request (ask 11 1) ∷ []))
-    × (heard_in gm request ≡ Ok (heard.Asks (messages.header 12 messages.client 0) (Request (ask 11 1) ∷ [])))
+    (items_in gm request_octets ≡ Ok (Request (sample_ask 11 1) ∷ []))
+    × (heard_in gm request_octets ≡ Ok (heard.Asks (messages.header 12 messages.sample_client 0) (Request (sample_ask 11 1) ∷ [])))
     × (items_in gm (messages.to_grandmaster 44 []) ≡ Ok [])
-    × (items_in gm (to_all_ports request) ≡ Ok (Request (ask 11 1) ∷ []))
-    × (items_in gm (slice_set request 41 2) ≡ Err reason.Target)
-    × (items_in gm (slice_set request 43 2) ≡ Err reason.Target)
-    × (items_in gm (slice_set (slice_set request 43 2) 4 5) ≡ Err (reason.Domain 5))
-    × (items_in gm (slice_set request 0 13) ≡ Err (reason.UnknownType 13))
+    × (items_in gm (to_all_ports request_octets) ≡ Ok (Request (sample_ask 11 1) ∷ []))
+    × (items_in gm (slice_set request_octets 41 2) ≡ Err reason.Target)
+    × (items_in gm (slice_set request_octets 43 2) ≡ Err reason.Target)
+    × (items_in gm (slice_set (slice_set request_octets 43 2) 4 5) ≡ Err (reason.Domain 5))
+    × (items_in gm (slice_set request_octets 0 13) ≡ Err (reason.UnknownType 13))
     × (items_in gm messages.announce ≡ Err (reason.Other 11))
-    × (items_in gm (take 33 request) ≡ Err (reason.Fault (Header (Short 33))))
+    × (items_in gm (take 33 request_octets) ≡ Err (reason.Fault (Header (Short 33))))
 
 -- a Delay_Req is heard, and has no items
 abbrev pub DelayReqsAreHeard : Type 0
 DelayReqsAreHeard =
-    (heard_in gm messages.delay_req ≡ Ok (heard.DelayReq (messages.header 1 messages.client 7)))
+    (heard_in gm messages.delay_req ≡ Ok (heard.DelayReq (messages.header 1 messages.sample_client 7)))
     × (heard_in gm (slice_set messages.delay_req 4 5) ≡ Err (reason.Domain 5))
     × (items_in gm (slice_set messages.delay_req 4 5) ≡ Err (reason.Other 1))
 
@@ -56,8 +56,8 @@ DelayReqsAreHeard =
 abbrev pub first : Client
 first = record { ip = 0x0a000111; clock = 0x0a00000000000011; port = 1 }
 
-abbrev pub second : Client
-second = record { ip = 0x0a000112; clock = 0x0a00000000000012; port = 1 }
+abbrev pub second_client : Client
+second_client = record { ip = 0x0a000112; clock = 0x0a00000000000012; port = 1 }
 
 -- a Signaling of n octets from the grandmaster to the client with this last octet, with these TLVs
 abbrev pub from_grandmaster : ℕ → ℕ → List ℕ → List ℕ
@@ -68,17 +68,17 @@ from_grandmaster n last values =
 -- a grant, a denial and a CANCEL as they are sent
 abbrev pub RepliesAreSent : Type 0
 RepliesAreSent =
-    (octets_sent (signaling_of gm messages.client 0 (grant_of (ask 11 1) 300 ∷ []))
+    (octets_sent (signaling_of gm messages.sample_client 0 (grant_of (sample_ask 11 1) 300 ∷ []))
     ≡ from_grandmaster 56 0x11 (0 ∷ 5 ∷ 0 ∷ 8 ∷ 0xb0 ∷ 1 ∷ 0 ∷ 0 ∷ 0x01 ∷ 0x2c ∷ 0 ∷ 1 ∷ []))
-    × (octets_sent (signaling_of gm messages.client 0 (denial_of (record { code = 0; log = negsuc 6; seconds = 300 }) ∷ []))
+    × (octets_sent (signaling_of gm messages.sample_client 0 (denial_of (record { code = 0; log = negsuc 6; seconds = 300 }) ∷ []))
     ≡ from_grandmaster 56 0x11 (0 ∷ 5 ∷ 0 ∷ 8 ∷ 0 ∷ 0xf9 ∷ 0 ∷ 0 ∷ 0 ∷ 0 ∷ 0 ∷ 0 ∷ []))
-    × ((cancel_to gm second kind.Announce 0).bytes ≡ from_grandmaster 50 0x12 (0 ∷ 6 ∷ 0 ∷ 2 ∷ 0xb0 ∷ 0 ∷ []))
-    × (map (λ d. d.ip) (cancels_to gm 65535 ((second, kind.Announce) ∷ (first, kind.Sync) ∷ [])) ≡ second.ip ∷ first.ip ∷ [])
-    × (cancels_to gm 65536 ((second, kind.Announce) ∷ []) ≡ cancel_to gm second kind.Announce 0 ∷ [])
+    × ((cancel_to gm second_client kind.Announce 0).bytes ≡ from_grandmaster 50 0x12 (0 ∷ 6 ∷ 0 ∷ 2 ∷ 0xb0 ∷ 0 ∷ []))
+    × (map (λ d. d.ip) (cancels_to gm 65535 ((second_client, kind.Announce) ∷ (first, kind.Sync) ∷ [])) ≡ second_client.ip ∷ first.ip ∷ [])
+    × (cancels_to gm 65536 ((second_client, kind.Announce) ∷ []) ≡ cancel_to gm second_client kind.Announce 0 ∷ [])
 
 -- items are decided one after the other, and a CANCEL of a code that is no kind is answered too
 abbrev pub ItemsAreAnswered : Type 0
 ItemsAreAnswered =
-    (map answer_to (decisions_of (opened_with 24 gm) [] 0 first (Request (ask 11 1) ∷ Request (ask 0 0) ∷ Request (ask 9 0) ∷ Cancel 3 ∷ []))
-    ≡ grant_of (ask 11 1) 300 ∷ grant_of (ask 0 0) 300 ∷ denial_of (ask 9 0) ∷ tlv.Ack 3 ∷ [])
+    (map answer_to (decisions_of (opened_with 24 gm) [] 0 first (Request (sample_ask 11 1) ∷ Request (sample_ask 0 0) ∷ Request (sample_ask 9 0) ∷ Cancel 3 ∷ []))
+    ≡ grant_of (sample_ask 11 1) 300 ∷ grant_of (sample_ask 0 0) 300 ∷ denial_of (sample_ask 9 0) ∷ tlv.Ack 3 ∷ [])
     × (events_of_items 7 first (Cancel 11 ∷ Cancel 3 ∷ []) ≡ (7, events.Cancel first kind.Announce) ∷ [])

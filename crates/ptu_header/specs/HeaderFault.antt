@@ -23,8 +23,8 @@ HasHeaderFault octets (Length said have) =
     × (said ≡ number_at octets 2 2) × (have ≡ length octets) × ((said < 34) ⊎ (have < said))
 
 -- what a person is told of it
-abbrev pub text_of : HeaderFault → List ℕ
-text_of (Short have) = decimal have ++ codes " octets are fewer than the 34 of a header"
-text_of (Version found) = codes "versionPTP is " ++ decimal found ++ codes " and not 2"
-text_of (Sdo found) = codes "majorSdoId is " ++ decimal found ++ codes " and not 0"
-text_of (Length said have) = codes "messageLength is " ++ (decimal said ++ (codes " and not from 34 to " ++ decimal have))
+abbrev pub header_fault_text : HeaderFault → List ℕ
+header_fault_text (Short have) = decimal have ++ codes " octets are fewer than the 34 of a header"
+header_fault_text (Version found) = codes "versionPTP is " ++ decimal found ++ codes " and not 2"
+header_fault_text (Sdo found) = codes "majorSdoId is " ++ decimal found ++ codes " and not 0"
+header_fault_text (Length said have) = codes "messageLength is " ++ (decimal said ++ (codes " and not from 34 to " ++ decimal have))

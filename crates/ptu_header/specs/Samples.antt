@@ -37,8 +37,8 @@ HeadersAreSpelled =
     × SpellsHeader (with_body response_octets) response_header 54
 
 -- each fault, in one wrong octet or a lost one, and the first of two
-abbrev pub FaultsAreFound : Type 0
-FaultsAreFound =
+abbrev pub HeaderFaultsAreFound : Type 0
+HeaderFaultsAreFound =
     HasHeaderFault (take 33 ask_octets) (Short 33)
     × HasHeaderFault (with_body (slice_set ask_octets 1 0x11)) (Version 1)
     × HasHeaderFault (with_body (slice_set ask_octets 0 0x3c)) (Sdo 3)

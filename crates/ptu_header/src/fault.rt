@@ -1,7 +1,7 @@
 //! Why the octets of a datagram begin with no header.
 
 ghost use Rattle.std.specs.Prelude.{Some};
-ghost use Rattle.ptu_header.specs.HeaderFault.{text_of};
+ghost use Rattle.ptu_header.specs.HeaderFault.{header_fault_text};
 
 use std::error::Error;
 use std::fmt;
@@ -35,7 +35,7 @@ pub enum HeaderFault {
 }
 
 impl fmt::Display for HeaderFault {
-    ghost output = { λ f. Some (text_of f) };
+    ghost output = { λ f. Some (header_fault_text f) };
 
     fn fmt<W: fmt::Write>(&self, f: &mut fmt::Formatter<W>) -> fmt::Result {
         match *self {

@@ -5,7 +5,7 @@ ghost use Rattle.std.specs.Prelude.{◌≡◌, ◌⊎◌, ◌↔◌, ◌<◌, �
 ghost use Rattle.ptu_header.specs.Header.{HasWidths, SpellsHeader, AlwaysSpellsHeader};
 ghost use Rattle.ptu_header.specs.{HeaderFault.{HasHeaderFault}, Reading.{header_in}};
 ghost use Rattle.ptu_header.specs.Sent.{sent_header};
-ghost use Rattle.ptu_header.specs.Samples.{HeadersAreSpelled, FaultsAreFound, HeadersAreSent};
+ghost use Rattle.ptu_header.specs.Samples.{HeadersAreSpelled, HeaderFaultsAreFound, HeadersAreSent};
 ghost use Rattle.ptu_header.specs.declared.header.Header.{Header};
 ghost use Rattle.ptu_header.specs.declared.fault.HeaderFault.{HeaderFault};
 
@@ -41,6 +41,6 @@ pub fn reading_is_spelling()
 /// The definitions at headers that were made out by hand.
 pub fn sample_headers()
     ensures spelled { HeadersAreSpelled }
-    ensures faulty { FaultsAreFound }
+    ensures faulty { HeaderFaultsAreFound }
     ensures sent { HeadersAreSent }
 {}

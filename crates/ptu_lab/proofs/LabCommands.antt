@@ -1,6 +1,6 @@
 -- What a line tells a node, and the delivery of a datagram as one that a node takes.
 use Rattle.std.proofs.Common.{◌≡◌, ℕ, true, Option, Some, None, Ok, is_some, refl}
-use Rattle.ptu_script.specs.{Fields.{◌>>=◌}, Limits.{IsActWithin, IsWithinLimits}}
+use Rattle.ptu_script.specs.{Fields.{◌>>=◌}, Limits.{IsActWithin, IsCommandInRange}}
 use Rattle.ptu_script.specs.declared.cause.Cause.TheVariants as causes
 use Rattle.ptu_script.specs.declared.act.Act.{Act}
 use Rattle.ptu_script.specs.declared.act.Act.TheVariants as acts
@@ -12,7 +12,7 @@ use Rattle.ptu_world.specs.World.{World, datagram_deed, datagram_numbered, deliv
 -- ---- an event
 
 -- what a line tells a node is within its limits
-pub act_within : (at node : ℕ) (act : Act) → IsWithinLimits (commands.Event at node act) → IsActWithin act
+pub act_within : (at node : ℕ) (act : Act) → IsCommandInRange (commands.Event at node act) → IsActWithin act
 act_within at node (acts.Receive from octets) within = tt
 act_within at node (acts.Turn table) within = within
 act_within at node (acts.Class class) within = tt

@@ -1,6 +1,6 @@
 -- A slave whose port got room.
 use Rattle.std.proofs.Common.{◌≡◌, ◌∙◌, ℕ, ◌+◌, ◌≤◌, Bool, false, List, [], length, ap, arith, subst, sym}
-use Rattle.ptu_outside.specs.{MemoryPort.{IsSure, MemoryPort, octets_of}}
+use Rattle.ptu_outside.specs.{MemoryPort.{IsSure, MemoryPort, departure_octets}}
 use Rattle.ptu_judges.specs.Held.{Held}
 use Rattle.ptu_slave.specs.{Kept.{Kept}, Seen.{Seen}}
 use Rattle.ptu_nodes.specs.Standing.{IsIdle}
@@ -9,12 +9,12 @@ use Rattle.ptu_lab.specs.{NodeStanding.{IsNode, IsSlaveNode}, SlaveWords.{HasRoo
 
 -- where room was made in the port that it gets
 pub room_made : (before after port : MemoryPort) (count size : ℕ) → port ≡ after → after ≡ record before { datagrams = after.datagrams; octets = after.octets }
-    → length before.sent + count ≤ after.datagrams → octets_of before.sent + size ≤ after.octets → HasRoom port count size
+    → length before.sent + count ≤ after.datagrams → departure_octets before.sent + size ≤ after.octets → HasRoom port count size
 room_made before after port count size is same more wider =
     let sent : after.sent ≡ before.sent = ap (λ (p : MemoryPort). p.sent) same in
     subst (λ p. HasRoom p count size) (sym is) (record {
       datagrams = subst (λ ds. length ds + count ≤ after.datagrams) (sym sent) more;
-      octets = subst (λ ds. octets_of ds + size ≤ after.octets) (sym sent) wider;
+      octets = subst (λ ds. departure_octets ds + size ≤ after.octets) (sym sent) wider;
     })
 
 -- of a port of which no send is to fail, this is also so with room

@@ -12,7 +12,7 @@ use Rattle.ptu_judges.specs.Held.{Held, IsFresh, fresh}
 use Rattle.ptu_profile.specs.declared.slave.{Master.{Master}, SlaveConfig.{SlaveConfig}}
 use Rattle.ptu_profile.specs.Slave.{AreMasters, address_of, priorities, timeouts}
 use Rattle.ptu_slave_messages.specs.Node.{Deed, deed, node_setup}
-use Rattle.ptu_slave_messages.specs.Sending.{all_ones, departure_of}
+use Rattle.ptu_slave_messages.specs.Sending.{all_ones, sending_departure}
 use Rattle.ptu_slave.specs.{Kept.{IsSame, Kept}, Seen.{Seen}, Standing.{StandsFor, Steps, setup_of}}
 use Rattle.ptu_slave.proofs.{Ruled.{ruled_step}, Staying.{rules_stay}, Stepping.{moment_is}}
 use Rattle.ptu_report_lines.specs.declared.statement.Statement.{Statement}
@@ -80,15 +80,15 @@ pub plain_stepped : (ip : ℕ) (old new : Kept) (judges news : List Held) (befor
     → IsSlaveNode ip old judges before begun s → ((m : ℕ) → e ≢ ReplaceJudge m None)
     → AllByRecursion (λ m. m < length old.masters) (judged_masters (length old.masters) e) → IsSame old new
     → Steps s.opened.openings old new news s.taken t e → at ≡ max t old.moment → room.sent ≡ before.sent
-    → Some (room.sent ++ map (departure_of old.config old.masters all_ones) handed) ≡ Some after.sent
+    → Some (room.sent ++ map (sending_departure old.config old.masters all_ones) handed) ≡ Some after.sent
     → handed ≡ sendings (setup_of old.config s.opened.openings) s.taken at e → IsSure after []
     → HasSlaveStepped ip new news after s (deed s.opened s.taken t e)
 plain_stepped ip old new judges news before room after begun s t at e handed h ruled within same steps is kept told stated sure =
     stepped ip old new judges news before after begun s t e (deed s.opened s.taken t e) h ruled within same steps refl
     (all_sent room after _ (kept ∙ h.idle) told
-    ∙ ap (map (departure_of old.config old.masters all_ones)) stated
-    ∙ ap (λ x. map (departure_of old.config old.masters all_ones) (sendings (setup_of old.config s.opened.openings) s.taken x e)) (is ∙ moment_is s.opened.openings old judges s.taken t h.stands)
-    ∙ ap₂ (λ (config : SlaveConfig) (masters : List Master). map (departure_of config masters all_ones) (sendings (setup_of config s.opened.openings) s.taken (event_moment s.taken t) e)) (sym h.config) (sym h.masters))
+    ∙ ap (map (sending_departure old.config old.masters all_ones)) stated
+    ∙ ap (λ x. map (sending_departure old.config old.masters all_ones) (sendings (setup_of old.config s.opened.openings) s.taken x e)) (is ∙ moment_is s.opened.openings old judges s.taken t h.stands)
+    ∙ ap₂ (λ (config : SlaveConfig) (masters : List Master). map (sending_departure config masters all_ones) (sendings (setup_of config s.opened.openings) s.taken (event_moment s.taken t) e)) (sym h.config) (sym h.masters))
     sure
 
 -- ---- what is said
@@ -167,9 +167,9 @@ pub plainly_stepped : {B : Type 0} (ip : ℕ) (old room new : Seen MemoryPort B)
     → at ≡ max t room.kept.moment
     → ((openings : List (Option Rule)) (L : Record) → StandsFor openings room.kept room.judges L → handed ≡ sendings (setup_of room.kept.config openings) L at e)
     → ((setup : SlaveSetup) (L : Record) (x : ℕ) (ss : List Sending) → ss ≡ sendings setup L x e → length setup.openings ≤ 16 → IsSure room.port [] → HasRoom room.port datagrams octets
-    → IsSure room.port (map (departure_of room.kept.config room.kept.masters all_ones) ss))
-    → (IsSure room.port (map (departure_of room.kept.config room.kept.masters all_ones) handed) → (failed ≡ 0) × IsSure new.port [])
-    → (failed ≡ 0 → Some (room.port.sent ++ map (departure_of room.kept.config room.kept.masters all_ones) handed) ≡ Some new.port.sent)
+    → IsSure room.port (map (sending_departure room.kept.config room.kept.masters all_ones) ss))
+    → (IsSure room.port (map (sending_departure room.kept.config room.kept.masters all_ones) handed) → (failed ≡ 0) × IsSure new.port [])
+    → (failed ≡ 0 → Some (room.port.sent ++ map (sending_departure room.kept.config room.kept.masters all_ones) handed) ≡ Some new.port.sent)
     → HasSteppedTo ip new s (deed s.opened s.taken t e)
 plainly_stepped ip old room new begun s t at failed datagrams octets e handed rest idle listed has h ruled within same steps is states within_room surely whole =
     let is_node : IsNode ip room begun s = roomed ip old room begun s datagrams octets rest idle listed has h in

@@ -19,7 +19,7 @@ use Rattle.ptu_slave_messages.specs.declared.reason.SlaveReason.{SlaveReason}
 use Rattle.ptu_outside.specs.Replies.{reply_failed, reply_sent}
 use Rattle.ptu_slave_messages.specs.Heard.{answer_of, event_of, heard_of, replies_in, replies_to, reply_by, reply_in}
 use Rattle.ptu_slave_messages.specs.Node.{Deed, Node, datagram_deed, datagram_heard, reception_deed, reception_heard}
-use Rattle.ptu_slave_messages.specs.{Reception.{reception}, Sending.{departure_of}}
+use Rattle.ptu_slave_messages.specs.{Reception.{reception}, Sending.{sending_departure}}
 use Rattle.ptu_slave.specs.{Kept.{IsSame, Kept}, Standing.{StandsFor, Steps}}
 use Rattle.ptu_slave.proofs.{Nodes.{node_replies}, Stepping.{moment_is}}
 use Rattle.ptu_world.specs.Deeds.{Slave}
@@ -80,7 +80,7 @@ heard_is : (node : Node) (L : Record) (t x : ℕ) (r : Result (ℕ × Message) S
     → reply_failed (reply_in h) ≡ 0 → reply_sent (reply_in h) + reply_failed (reply_in h) ≡ length (replies_in node.config node.masters r) → h ≡ reception_heard node L t r
 heard_is node L t x (Err reason) h at is sent each = is
 heard_is node L t x (Ok (m, message)) h at is sent each =
-    heard_body node x m message.header message.body h is sent (each ∙ length-same (departure_of node.config node.masters message.header.source) (replies_to m message))
+    heard_body node x m message.header message.body h is sent (each ∙ length-same (sending_departure node.config node.masters message.header.source) (replies_to m message))
     ∙ ap (λ y. heard_of node.config.wants y (reply_by (replies_to m message)) (m, message)) at
 
 pub heard_datagram : (ip : ℕ) (old : Kept) (judges : List Held) (port : MemoryPort) (begun : Bool) (s : Slave) (t from : ℕ) (octets : List ℕ) (h : Heard)

@@ -16,7 +16,7 @@ use Rattle.ptu_messages.specs.declared.message.Message.{Message}
 use Rattle.ptu_messages.specs.{Message.{SpellsBody, SpellsMessage}, Reading.{message_in}}
 use Rattle.ptu_messages.specs.Sent.{octets_sent, signaling}
 use Rattle.ptu_messages.proofs.Readings.{found_is}
-use Rattle.ptu_outside.specs.{Departure.{Departure}, MemoryPort.{IsSure, MemoryPort, octets_of}}
+use Rattle.ptu_outside.specs.{Departure.{Departure}, MemoryPort.{IsSure, MemoryPort, departure_octets}}
 use Rattle.ptu_outside.proofs.Sure.{sure_within}
 use Rattle.ptu_record.specs.{declared.wants.Wants.{Wants}, Lists.{places}}
 use Rattle.ptu_record.specs.{Record.{Record, record_of}, Asks.{due_kinds, is_due}}
@@ -25,11 +25,11 @@ use Rattle.ptu_record.specs.Step.{SlaveSetup, Stop, Tick, cancel_code, one_reply
 use Rattle.ptu_record.specs.Tick.{Acknowledgements, Cancels, DelayReq, Requests, Sending, cancels_to, delay_req_number, is_probe_due, is_stop, one_signaling, requests_to, signaling_number}
 use Rattle.ptu_record.specs.Wants.{wanted_kinds, wanted_log}
 use Rattle.ptu_profile.specs.declared.slave.{Master.{Master}, SlaveConfig.{SlaveConfig}}
-use Rattle.ptu_profile.specs.Slave.{header_of}
+use Rattle.ptu_profile.specs.Slave.{slave_header}
 use Rattle.ptu_slave_messages.specs.declared.reason.SlaveReason.{SlaveReason}
 use Rattle.ptu_slave_messages.specs.Heard.{replies_in, replies_to, said_by}
 use Rattle.ptu_slave_messages.specs.Reception.{beside, of_reading, reception, sender_of}
-use Rattle.ptu_slave_messages.specs.Sending.{cancel_of, departure_of, message_of, request_of}
+use Rattle.ptu_slave_messages.specs.Sending.{cancel_of, sending_departure, message_of, request_of}
 use Rattle.ptu_lab.specs.SlaveWords.{HasRoom}
 
 -- ---- counts
@@ -37,7 +37,7 @@ use Rattle.ptu_lab.specs.SlaveWords.{HasRoom}
 -- at most so many datagrams, with at most so many octets in all
 pub record AreWithin (datagrams octets : ℕ) (ds : List Departure) : Type 0 where
   pub few : length ds ≤ datagrams
-  pub short : octets_of ds ≤ octets
+  pub short : departure_octets ds ≤ octets
 
 within_none : (datagrams octets : ℕ) → AreWithin datagrams octets []
 within_none datagrams octets = record { few = omega arith; short = omega arith }
@@ -109,50 +109,50 @@ live_few L x = fewer (λ k. is_live k L x) kinds
 -- ---- a tick, and the stop
 
 module _ (config : SlaveConfig) (masters : List Master) (target : PortIdentity) where
-  within_requests : (m number : ℕ) (ks : List Kind) → length ks ≤ 3 → AreWithin 1 428 (map (departure_of config masters target) (one_signaling (Requests m number) ks))
+  within_requests : (m number : ℕ) (ks : List Kind) → length ks ≤ 3 → AreWithin 1 428 (map (sending_departure config masters target) (one_signaling (Requests m number) ks))
   within_requests m number [] few = within_none 1 428
   within_requests m number (k ∷ ks) few =
-      within_one 428 (departure_of config masters target (Requests m number (k ∷ ks)))
-      (signaling_short (header_of config 12 number) target (map (request_of config.wants) (k ∷ ks)) (omega (arith, few, length-map (k ∷ ks) (request_of config.wants))))
+      within_one 428 (sending_departure config masters target (Requests m number (k ∷ ks)))
+      (signaling_short (slave_header config 12 number) target (map (request_of config.wants) (k ∷ ks)) (omega (arith, few, length-map (k ∷ ks) (request_of config.wants))))
 
-  within_cancels : (m number : ℕ) (ks : List Kind) → length ks ≤ 3 → AreWithin 1 428 (map (departure_of config masters target) (one_signaling (Cancels m number) ks))
+  within_cancels : (m number : ℕ) (ks : List Kind) → length ks ≤ 3 → AreWithin 1 428 (map (sending_departure config masters target) (one_signaling (Cancels m number) ks))
   within_cancels m number [] few = within_none 1 428
   within_cancels m number (k ∷ ks) few =
-      within_one 428 (departure_of config masters target (Cancels m number (k ∷ ks)))
-      (signaling_short (header_of config 12 number) target (map cancel_of (k ∷ ks)) (omega (arith, few, length-map (k ∷ ks) cancel_of)))
+      within_one 428 (sending_departure config masters target (Cancels m number (k ∷ ks)))
+      (signaling_short (slave_header config 12 number) target (map cancel_of (k ∷ ks)) (omega (arith, few, length-map (k ∷ ks) cancel_of)))
 
-  within_probe : (is : Bool) (m number : ℕ) → AreWithin 1 44 (map (departure_of config masters target) (cond is (DelayReq m number ∷ []) []))
-  within_probe true m number = within_one 44 (departure_of config masters target (DelayReq m number)) (delay_req_short config target m number)
+  within_probe : (is : Bool) (m number : ℕ) → AreWithin 1 44 (map (sending_departure config masters target) (cond is (DelayReq m number ∷ []) []))
+  within_probe true m number = within_one 44 (sending_departure config masters target (DelayReq m number)) (delay_req_short config target m number)
   within_probe false m number = within_none 1 44
 
-  within_one_tick : (wants : Wants) (L : Record) (x m : ℕ) → AreWithin 2 472 (map (departure_of config masters target) (requests_to wants L x m))
+  within_one_tick : (wants : Wants) (L : Record) (x m : ℕ) → AreWithin 2 472 (map (sending_departure config masters target) (requests_to wants L x m))
   within_one_tick wants L x m =
       let own : Record = record_of m L in
       let asks : List Sending = one_signaling (Requests m (signaling_number own)) (due_kinds wants own x) in
       let probe : List Sending = cond (is_probe_due wants own x) (DelayReq m (delay_req_number own) ∷ []) [] in
-      subst (AreWithin 2 472) (sym (map-append (departure_of config masters target) asks probe))
-      (within-append 1 1 428 44 (map (departure_of config masters target) asks) (map (departure_of config masters target) probe)
+      subst (AreWithin 2 472) (sym (map-append (sending_departure config masters target) asks probe))
+      (within-append 1 1 428 44 (map (sending_departure config masters target) asks) (map (sending_departure config masters target) probe)
       (within_requests m (signaling_number own) (due_kinds wants own x) (due_few wants own x))
       (within_probe (is_probe_due wants own x) m (delay_req_number own)))
 
-  within_tick : (setup : SlaveSetup) (L : Record) (x : ℕ) → length setup.openings ≤ 16 → AreWithin 32 7552 (map (departure_of config masters target) (sendings setup L x Tick))
+  within_tick : (setup : SlaveSetup) (L : Record) (x : ℕ) → length setup.openings ≤ 16 → AreWithin 32 7552 (map (sending_departure config masters target) (sendings setup L x Tick))
   within_tick setup L x few = by_stop (list_any is_stop L)
     where
       n : ℕ
       n = length setup.openings
 
-      all : AreWithin (length (places n) * 2) (length (places n) * 472) (map (departure_of config masters target) (flat_map (requests_to setup.wants L x) (places n)))
-      all = within_each (departure_of config masters target) (requests_to setup.wants L x) 2 472 (within_one_tick setup.wants L x) (places n)
+      all : AreWithin (length (places n) * 2) (length (places n) * 472) (map (sending_departure config masters target) (flat_map (requests_to setup.wants L x) (places n)))
+      all = within_each (sending_departure config masters target) (requests_to setup.wants L x) 2 472 (within_one_tick setup.wants L x) (places n)
 
-      by_stop : (b : Bool) → AreWithin 32 7552 (map (departure_of config masters target) (cond b [] (flat_map (requests_to setup.wants L x) (places n))))
+      by_stop : (b : Bool) → AreWithin 32 7552 (map (sending_departure config masters target) (cond b [] (flat_map (requests_to setup.wants L x) (places n))))
       by_stop true = within_none 32 7552
       by_stop false = within_more (length (places n) * 2) 32 (length (places n) * 472) 7552 _ (omega (arith, length-range_with_len 0 n, few)) (omega (arith, length-range_with_len 0 n, few)) all
 
-  within_stop : (setup : SlaveSetup) (L : Record) (x : ℕ) → length setup.openings ≤ 16 → AreWithin 16 6848 (map (departure_of config masters target) (sendings setup L x Stop))
+  within_stop : (setup : SlaveSetup) (L : Record) (x : ℕ) → length setup.openings ≤ 16 → AreWithin 16 6848 (map (sending_departure config masters target) (sendings setup L x Stop))
   within_stop setup L x few =
       let n : ℕ = length setup.openings in
       within_more (length (places n) * 1) 16 (length (places n) * 428) 6848 _ (omega (arith, length-range_with_len 0 n, few)) (omega (arith, length-range_with_len 0 n, few))
-      (within_each (departure_of config masters target) (cancels_to L x) 1 428
+      (within_each (sending_departure config masters target) (cancels_to L x) 1 428
       (λ m. within_cancels m (signaling_number (record_of m L)) (live_kinds (record_of m L) x) (live_few (record_of m L) x)) (places n))
 
 -- ---- a reply
@@ -167,14 +167,14 @@ given_few f [] = omega arith
 given_few f (x ∷ xs) = omega (arith, one_given (f x) (filter_map f xs), given_few f xs)
 
 module _ (config : SlaveConfig) (masters : List Master) where
-  within_reply : (target : PortIdentity) (m number : ℕ) (codes : List ℕ) → length codes ≤ 32 → AreWithin 1 428 (map (departure_of config masters target) (one_reply m number codes))
+  within_reply : (target : PortIdentity) (m number : ℕ) (codes : List ℕ) → length codes ≤ 32 → AreWithin 1 428 (map (sending_departure config masters target) (one_reply m number codes))
   within_reply target m number [] few = within_none 1 428
   within_reply target m number (code ∷ codes) few =
-      within_one 428 (departure_of config masters target (Acknowledgements m number (code ∷ codes)))
-      (signaling_short (header_of config 12 number) target (map tlv.Ack (code ∷ codes)) (omega (arith, few, length-map (code ∷ codes) tlv.Ack)))
+      within_one 428 (sending_departure config masters target (Acknowledgements m number (code ∷ codes)))
+      (signaling_short (slave_header config 12 number) target (map tlv.Ack (code ∷ codes)) (omega (arith, few, length-map (code ∷ codes) tlv.Ack)))
 
   within_replies : (octets : List ℕ) (n m : ℕ) (header : Header) (b : Body) → SpellsBody octets n b
-      → AreWithin 1 428 (map (departure_of config masters header.source) (replies_to m (record { header = header; body = b })))
+      → AreWithin 1 428 (map (sending_departure config masters header.source) (replies_to m (record { header = header; body = b })))
   within_replies octets n m header (body.Announce announce) spelled = within_none 1 428
   within_replies octets n m header (body.Sync stamp) spelled = within_none 1 428
   within_replies octets n m header (body.FollowUp stamp) spelled = within_none 1 428
@@ -214,16 +214,16 @@ sure_of port ds datagrams octets sure room within = sure_within port ds datagram
 
 module _ (config : SlaveConfig) (masters : List Master) where
   pub sure_tick : (port : MemoryPort) (target : PortIdentity) (setup : SlaveSetup) (L : Record) (x : ℕ) (handed : List Sending) → handed ≡ sendings setup L x Tick
-      → length setup.openings ≤ 16 → IsSure port [] → HasRoom port 32 7552 → IsSure port (map (departure_of config masters target) handed)
+      → length setup.openings ≤ 16 → IsSure port [] → HasRoom port 32 7552 → IsSure port (map (sending_departure config masters target) handed)
   sure_tick port target setup L x handed stated few sure room =
-      sure_of port (map (departure_of config masters target) handed) 32 7552 sure room
-      (subst (λ ss. AreWithin 32 7552 (map (departure_of config masters target) ss)) (sym stated) (within_tick config masters target setup L x few))
+      sure_of port (map (sending_departure config masters target) handed) 32 7552 sure room
+      (subst (λ ss. AreWithin 32 7552 (map (sending_departure config masters target) ss)) (sym stated) (within_tick config masters target setup L x few))
 
   pub sure_stop : (port : MemoryPort) (target : PortIdentity) (setup : SlaveSetup) (L : Record) (x : ℕ) (handed : List Sending) → handed ≡ sendings setup L x Stop
-      → length setup.openings ≤ 16 → IsSure port [] → HasRoom port 16 6848 → IsSure port (map (departure_of config masters target) handed)
+      → length setup.openings ≤ 16 → IsSure port [] → HasRoom port 16 6848 → IsSure port (map (sending_departure config masters target) handed)
   sure_stop port target setup L x handed stated few sure room =
-      sure_of port (map (departure_of config masters target) handed) 16 6848 sure room
-      (subst (λ ss. AreWithin 16 6848 (map (departure_of config masters target) ss)) (sym stated) (within_stop config masters target setup L x few))
+      sure_of port (map (sending_departure config masters target) handed) 16 6848 sure room
+      (subst (λ ss. AreWithin 16 6848 (map (sending_departure config masters target) ss)) (sym stated) (within_stop config masters target setup L x few))
 
   pub sure_answer : (port : MemoryPort) (ip : ℕ) (octets : List ℕ) → IsSure port [] → HasRoom port 1 428 → IsSure port (replies_in config masters (reception config masters ip octets))
   sure_answer port ip octets sure room =

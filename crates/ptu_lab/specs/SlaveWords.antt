@@ -1,6 +1,6 @@
 -- What the slave of a node is set up with, and what is said of what it selects.
 use Rattle.std.specs.Prelude.{◌≡◌, ◌≤◌, ◌+◌, ℕ, true, List, [], length}
-use Rattle.ptu_outside.specs.MemoryPort.{IsSure, MemoryPort, octets_of}
+use Rattle.ptu_outside.specs.MemoryPort.{IsSure, MemoryPort, departure_octets}
 use Rattle.ptu_judges.specs.Held.{Held}
 use Rattle.ptu_slave_messages.specs.Node.{Deed}
 use Rattle.ptu_world.specs.{Deeds.{IsGrandmaster, IsSlave, Node, Slave}, Slaves.{entered}}
@@ -38,4 +38,4 @@ HasSteppedTo ip seen s deed = HasSlaveStepped ip seen.kept seen.judges seen.port
 -- beside what was sent the port has room for so many datagrams, of so many octets in all
 pub record HasRoom (port : MemoryPort) (count size : ℕ) : Type 0 where
   pub datagrams : length port.sent + count ≤ port.datagrams
-  pub octets : octets_of port.sent + size ≤ port.octets
+  pub octets : departure_octets port.sent + size ≤ port.octets

@@ -3,7 +3,7 @@
 ghost use Rattle.std.specs.Prelude.{◌≡◌, [], map, IfOk};
 ghost use Rattle.ptu_judges.specs.Held.{IsStock};
 ghost use Rattle.ptu_report.specs.Rules.{IsOutcome};
-ghost use Rattle.ptu_script.specs.Limits.{IsWithinLimits};
+ghost use Rattle.ptu_script.specs.Limits.{IsCommandInRange};
 ghost use Rattle.ptu_world.specs.{World.{step}, Report.{Course, course_opening, outcome_by}};
 ghost use Rattle.ptu_lab.specs.{Standing.{HasObeyed, LabStandsFor}, Steps.{stock_of}};
 
@@ -70,7 +70,7 @@ impl Lab {
         texts: &mut Texts,
     ) -> Result<Option<Cause>, OutOfMemory>
         requires means { (c : Course) × LabStandsFor held self.old c }
-        requires limits { IsWithinLimits command }
+        requires limits { IsCommandInRange command }
         ensures { IfOk result (λ refused. (c : Course) →
             LabStandsFor held self.old c →
             IsOutcome (outcome_by c line (step c.world command.entry))
@@ -90,7 +90,7 @@ impl Lab {
         room: &mut Vec<u8>,
     ) -> Result<Option<Cause>, OutOfMemory>
         requires means { (c : Course) × LabStandsFor held self.old c }
-        requires limits { IsWithinLimits command }
+        requires limits { IsCommandInRange command }
         requires empty { self.old.journal.texts ≡ [] }
         ensures { IfOk result (HasObeyed held self.old self.new
             self.old.journal.line self.new.journal.texts command.entry) }

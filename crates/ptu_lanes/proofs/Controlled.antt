@@ -11,7 +11,7 @@ use Rattle.ptu_outside.specs.{Faults.{HasRisen, HasNotFallen}, HandsOver.{HandsO
 use Rattle.ptu_outside.proofs.HandsOver.{goes_on_both, none_failed, not_fallen_both, rises_first, rises_second, told_both}
 use Rattle.ptu_history.specs.declared.client.Client.{Client}
 use Rattle.ptu_profile.specs.declared.grandmaster.GmConfig.{GmConfig}
-use Rattle.ptu_shared.specs.{Histories.{SendsLawfully}, Opening.{HaveFailed, Seen, seen_of}, Seats.{Counts, no_verdicts}}
+use Rattle.ptu_shared.specs.{Histories.{SendsLawfully}, Opening.{HaveFailed, Seen, seen_of}, Seats.{SeatCounts, no_verdicts}}
 use Rattle.ptu_shared.proofs.Failing.{failed-append, failed_hands, failed_none}
 use Rattle.ptu_gm_messages.specs.Replies.{cancels_to}
 use Rattle.ptu_config.specs.{declared.settings.GmSettings.{GmSettings}, Rounds.{all_rounds}}
@@ -59,13 +59,13 @@ no_change : (change : Option ℕ) → IfNone change (◌≡◌ {A = List (Client
 no_change None = refl
 no_change (Some capacity) = tt
 
-controlled_unchanged : {P : Type 0} (ports : Ports P) (settings : GmSettings) (config : GmConfig) (port port' : P) (left : List Arrival) (old new : Counts) →
+controlled_unchanged : {P : Type 0} (ports : Ports P) (settings : GmSettings) (config : GmConfig) (port port' : P) (left : List Arrival) (old new : SeatCounts) →
     change_of settings ≡ None → old ≡ no_verdicts → AreRounds ports (greatest_capacity settings) config (all_rounds settings) port port' left old new →
     IsControlled ports settings config port port' left new.granted new.refused
 controlled_unchanged ports settings config port port' left old new none fresh r =
     let all : r.exchanges ++ [] ≡ r.exchanges = append-nil r.exchanges in
-    let granted : old.granted ≡ 0 = ap (λ (c : Counts). c.granted) fresh in
-    let refused : old.refused ≡ 0 = ap (λ (c : Counts). c.refused) fresh in
+    let granted : old.granted ≡ 0 = ap (λ (c : SeatCounts). c.granted) fresh in
+    let refused : old.refused ≡ 0 = ap (λ (c : SeatCounts). c.refused) fresh in
     let sent : replies config r.exchanges ++ [] ++ [] ≡ replies config r.exchanges =
     append-nil (replies config r.exchanges ++ []) ∙ append-nil (replies config r.exchanges) in
     record {
@@ -85,7 +85,7 @@ controlled_unchanged ports settings config port port' left old new none fresh r 
       counted = let n = r.counted in omega (arith, granted, refused, n, ap (λ es. asks_in config (datagrams es)) all);
     }
 
-pub unchanged_controlled : {P : Type 0} (ports : Ports P) (settings : GmSettings) (config : GmConfig) (port port' : P) (old new : Counts) →
+pub unchanged_controlled : {P : Type 0} (ports : Ports P) (settings : GmSettings) (config : GmConfig) (port port' : P) (old new : SeatCounts) →
     change_of settings ≡ None → old ≡ no_verdicts → IfSome (ports.waiting port') (λ later. AreRounds ports (greatest_capacity settings) config (all_rounds settings) port port' later old new) →
     IfSome (ports.waiting port') (λ later. IsControlled ports settings config port port' later new.granted new.refused)
 unchanged_controlled ports settings config port port' old new none fresh r =
@@ -102,7 +102,7 @@ some_change (Some more) capacity shed is = tt
 
 -- the CANCELs were sent to a port of which p1 is the port before and p2 the port after
 controlled_some : {P : Type 0} (ports : Ports P) (settings : GmSettings) (config : GmConfig) (capacity e l : ℕ) (shed : List (Client × Kind)) (p0 p1 p2 p3 : P) (left : List Arrival)
-    (old seat new : Counts) (sent failed : ℕ) →
+    (old seat new : SeatCounts) (sent failed : ℕ) →
     change_of settings ≡ Some capacity → e ≡ settings.change_round - 1 → e + l ≡ (all_rounds settings) → old ≡ no_verdicts →
     IfSome (ports.waiting p1) (λ later. AreRounds ports (greatest_capacity settings) config e p0 p1 later old seat) →
     HandsOver ports p1 p2 (cancels_to config 0 shed) sent failed → ¬ HasRisen (ports.faults p1) (ports.faults p2) →
@@ -111,8 +111,8 @@ controlled_some : {P : Type 0} (ports : Ports P) (settings : GmSettings) (config
 controlled_some ports settings config capacity e l shed p0 p1 p2 p3 left old seat new sent failed some early_is all_is fresh early hands still q =
     let p = told_is (ports.waiting p1) (λ later. AreRounds ports (greatest_capacity settings) config e p0 p1 later old seat) q.waited (sym hands.waiting ∙ q.all) early in
     let none : failed ≡ 0 = none_failed failed (ports.faults p1) (ports.faults p2) hands.risen still in
-    let granted : old.granted ≡ 0 = ap (λ (c : Counts). c.granted) fresh in
-    let refused : old.refused ≡ 0 = ap (λ (c : Counts). c.refused) fresh in
+    let granted : old.granted ≡ 0 = ap (λ (c : SeatCounts). c.granted) fresh in
+    let refused : old.refused ≡ 0 = ap (λ (c : SeatCounts). c.refused) fresh in
     let same : q.waited ≡ drop (64 * e) p.waited = p.rest in
     let later : datagrams q.exchanges ≡ take (64 * l) (drop (64 * e) p.waited) = q.first ∙ ap (take (64 * l)) same in
     record {
@@ -136,7 +136,7 @@ controlled_some ports settings config capacity e l shed p0 p1 p2 p3 left old sea
     }
 
 -- rounds, the CANCELs of a change, and rounds, over the counts of faults of the port
-pub controlled_changed : {P C : Type 0} (ports : Ports P) (clocks : Clocks C) (settings : GmSettings) (config : GmConfig) (capacity e l : ℕ) (p0 p1 p2 p3 : P) (c0 c1 c2 c3 : C) (first seat next last : Counts) (g0 g1 g2 g3 f0 f1 f2 f3 : ℕ) →
+pub controlled_changed : {P C : Type 0} (ports : Ports P) (clocks : Clocks C) (settings : GmSettings) (config : GmConfig) (capacity e l : ℕ) (p0 p1 p2 p3 : P) (c0 c1 c2 c3 : C) (first seat next last : SeatCounts) (g0 g1 g2 g3 f0 f1 f2 f3 : ℕ) →
     change_of settings ≡ Some capacity → e ≡ settings.change_round - 1 → e + l ≡ (all_rounds settings) → first ≡ no_verdicts →
     TookSignaling ports clocks (greatest_capacity settings) config e p0 p1 c0 c1 first seat g0 g1 f0 f1 →
     (shed : List (Client × Kind)) × (sent : ℕ) × (failed : ℕ) × HandsOver ports p1 p2 (cancels_to config 0 shed) sent failed
@@ -169,7 +169,7 @@ controlled_changed ports clocks settings config capacity e l p0 p1 p2 p3 c0 c1 c
     still3 rises = still (rises_second _ _ _ (not_fallen_both _ _ _ f01 f12) rises)
 
 -- what was taken in both stretches, and what was sent there and in the change between them
-pub exchanged_changed : {P C : Type 0} (ports : Ports P) (clocks : Clocks C) (settings : GmSettings) (config : GmConfig) (capacity e l : ℕ) (p0 p1 p2 p3 : P) (c0 c1 c2 c3 : C) (first seat next last : Counts) (g0 g1 g2 g3 f0 f1 f2 f3 : ℕ) →
+pub exchanged_changed : {P C : Type 0} (ports : Ports P) (clocks : Clocks C) (settings : GmSettings) (config : GmConfig) (capacity e l : ℕ) (p0 p1 p2 p3 : P) (c0 c1 c2 c3 : C) (first seat next last : SeatCounts) (g0 g1 g2 g3 f0 f1 f2 f3 : ℕ) →
     change_of settings ≡ Some capacity → e ≡ settings.change_round - 1 → e + l ≡ (all_rounds settings) → first ≡ no_verdicts →
     (p : TookSignaling ports clocks (greatest_capacity settings) config e p0 p1 c0 c1 first seat g0 g1 f0 f1) →
     (sends : (shed : List (Client × Kind)) × (sent : ℕ) × (failed : ℕ) × HandsOver ports p1 p2 (cancels_to config 0 shed) sent failed
@@ -180,10 +180,10 @@ exchanged_changed ports clocks settings config capacity e l p0 p1 p2 p3 c0 c1 c2
     let x = p.exchanged in
     let y = q.exchanged in
     let early_rounds_are : early_rounds settings ≡ e = changed_rounds settings capacity some ∙ sym early_is in
-    let granted : first.granted ≡ 0 = ap (λ (c : Counts). c.granted) fresh in
-    let refused : first.refused ≡ 0 = ap (λ (c : Counts). c.refused) fresh in
-    let same_granted : next.granted ≡ seat.granted = ap (λ (c : Counts). c.granted) same_seat in
-    let same_refused : next.refused ≡ seat.refused = ap (λ (c : Counts). c.refused) same_seat in
+    let granted : first.granted ≡ 0 = ap (λ (c : SeatCounts). c.granted) fresh in
+    let refused : first.refused ≡ 0 = ap (λ (c : SeatCounts). c.refused) fresh in
+    let same_granted : next.granted ≡ seat.granted = ap (λ (c : SeatCounts). c.granted) same_seat in
+    let same_refused : next.refused ≡ seat.refused = ap (λ (c : SeatCounts). c.refused) same_seat in
     let moment : change_moments settings ≡ 1 = ap moments_to some in
     let all : length (x.exchanges ++ y.exchanges) ≡ length x.exchanges + length y.exchanges = length-append x.exchanges y.exchanges in
     let cancels = cancels_to config 0 shed in (
@@ -224,13 +224,13 @@ exchanged_changed ports clocks settings config capacity e l p0 p1 p2 p3 c0 c1 c2
       refl,
     )
 
-pub exchanged_unchanged : {P C : Type 0} (ports : Ports P) (clocks : Clocks C) (settings : GmSettings) (config : GmConfig) (sent failed : ℕ) (p0 p1 : P) (c0 c1 : C) (old new : Counts) →
+pub exchanged_unchanged : {P C : Type 0} (ports : Ports P) (clocks : Clocks C) (settings : GmSettings) (config : GmConfig) (sent failed : ℕ) (p0 p1 : P) (c0 c1 : C) (old new : SeatCounts) →
     change_of settings ≡ None → old ≡ no_verdicts → Exchanged ports clocks (greatest_capacity settings) config (all_rounds settings) sent failed p0 p1 c0 c1 old new →
     (e : ExchangedAll ports clocks settings config p0 p1 c0 c1 new.granted new.refused) × (e.sent ≡ sent)
 exchanged_unchanged ports clocks settings config sent failed p0 p1 c0 c1 old new none fresh x =
     let rounds : early_rounds settings ≡ (all_rounds settings) = unchanged_rounds settings none in
-    let granted : old.granted ≡ 0 = ap (λ (c : Counts). c.granted) fresh in
-    let refused : old.refused ≡ 0 = ap (λ (c : Counts). c.refused) fresh in
+    let granted : old.granted ≡ 0 = ap (λ (c : SeatCounts). c.granted) fresh in
+    let refused : old.refused ≡ 0 = ap (λ (c : SeatCounts). c.refused) fresh in
     let moment : change_moments settings ≡ 0 = ap moments_to none in
     let all : x.exchanges ++ [] ≡ x.exchanges = append-nil x.exchanges in
     let sends : replies config x.exchanges ++ [] ++ [] ≡ replies config x.exchanges =
@@ -280,7 +280,7 @@ failed_changed ports config p0 p1 p2 p3 g1 g2 f0 f1 f2 f3 none p (shed, sent, fa
 
 -- ---- the lane that takes Signaling, in all rounds
 
-pub signaling_unchanged : {P C : Type 0} (ports : Ports P) (clocks : Clocks C) (settings : GmSettings) (config : GmConfig) (p0 p1 : P) (c0 c1 : C) (old new : Counts) (g0 g1 f0 f1 : ℕ) →
+pub signaling_unchanged : {P C : Type 0} (ports : Ports P) (clocks : Clocks C) (settings : GmSettings) (config : GmConfig) (p0 p1 : P) (c0 c1 : C) (old new : SeatCounts) (g0 g1 f0 f1 : ℕ) →
     change_of settings ≡ None → old ≡ no_verdicts → (g0 ≡ 0) × (f0 ≡ 0) →
     TookSignaling ports clocks (greatest_capacity settings) config (all_rounds settings) p0 p1 c0 c1 old new g0 g1 f0 f1 →
     ServedSignaling ports clocks settings config p0 p1 c0 c1 new g1 f1
@@ -293,7 +293,7 @@ signaling_unchanged ports clocks settings config p0 p1 c0 c1 old new g0 g1 f0 f1
       failed = failed_from ports p0 p1 f0 f1 nothing.1 took.failures;
     }
 
-pub signaling_changed : {P C : Type 0} (ports : Ports P) (clocks : Clocks C) (settings : GmSettings) (config : GmConfig) (capacity e l : ℕ) (p0 p1 p2 p3 : P) (c0 c1 c2 c3 : C) (first seat next last : Counts) (g0 g1 g2 g3 f0 f1 f2 f3 : ℕ) →
+pub signaling_changed : {P C : Type 0} (ports : Ports P) (clocks : Clocks C) (settings : GmSettings) (config : GmConfig) (capacity e l : ℕ) (p0 p1 p2 p3 : P) (c0 c1 c2 c3 : C) (first seat next last : SeatCounts) (g0 g1 g2 g3 f0 f1 f2 f3 : ℕ) →
     change_of settings ≡ Some capacity → e ≡ settings.change_round - 1 → e + l ≡ (all_rounds settings) → first ≡ no_verdicts → (g0 ≡ 0) × (f0 ≡ 0) →
     TookSignaling ports clocks (greatest_capacity settings) config e p0 p1 c0 c1 first seat g0 g1 f0 f1 →
     (shed : List (Client × Kind)) × (sent : ℕ) × (failed : ℕ) × HandsOver ports p1 p2 (cancels_to config 0 shed) sent failed

@@ -15,7 +15,7 @@ use Rattle.ptu_outside.proofs.Telling.{IfTold-refl}
 use Rattle.ptu_header.specs.declared.header.Header.{Header}
 use Rattle.ptu_tlvs.specs.declared.tlv.Tlv.{Tlv}
 use Rattle.ptu_profile.specs.declared.grandmaster.GmConfig.{GmConfig}
-use Rattle.ptu_shared.specs.Seats.{Counts}
+use Rattle.ptu_shared.specs.Seats.{SeatCounts}
 use Rattle.ptu_shared.proofs.Failing.{failed-append, failed_none}
 use Rattle.ptu_gm_messages.specs.declared.heard.Heard.{Heard}
 use Rattle.ptu_gm_messages.specs.declared.heard.Heard.TheVariants as heard
@@ -34,7 +34,7 @@ use Rattle.ptu_lanes.specs.Sending.{GoesOn, WasSent}
 -- ---- nothing was taken
 
 -- the port is as it was but for what it received, and for its count of faults
-pub served_none : {P : Type 0} (ports : Ports P) (greatest : ℕ) (config : GmConfig) (port port' : P) (failed : ℕ) (counts : Counts) →
+pub served_none : {P : Type 0} (ports : Ports P) (greatest : ℕ) (config : GmConfig) (port port' : P) (failed : ℕ) (counts : SeatCounts) →
     IfTold (ports.waiting port') (ports.waiting port) → ports.sent port' ≡ ports.sent port →
     HasRisenBy failed (ports.faults port) (ports.faults port') → (ports.counts_once ≡ true → HasRisenJust failed (ports.faults port) (ports.faults port')) →
     (failed ≡ 0 → ports.faults port' ≡ ports.faults port) → HasNotFallen (ports.faults port) (ports.faults port') →
@@ -59,7 +59,7 @@ served_none ports greatest config port port' failed counts kept unsent risen jus
   goes_on = λ none few tells. subst IsSome (sym unsent) tells;
 }
 
-pub nothing_yet : {P : Type 0} (ports : Ports P) (greatest : ℕ) (config : GmConfig) (port : P) (counts : Counts) → HasServed ports greatest config [] port port counts counts 0 0 0 0
+pub nothing_yet : {P : Type 0} (ports : Ports P) (greatest : ℕ) (config : GmConfig) (port : P) (counts : SeatCounts) → HasServed ports greatest config [] port port counts counts 0 0 0 0
 nothing_yet ports greatest config port counts =
     served_none ports greatest config port port 0 counts (IfTold-refl (ports.waiting port)) refl (inl (omega arith)) (λ once. inl (omega arith)) (λ none. refl)
     (not_fallen_none (ports.faults port))
@@ -72,7 +72,7 @@ pub exchanges_more : (xs ys : List Exchange) (waiting middle left : Option (List
 exchanges_more xs ys waiting middle left first second =
     rw (map-append (λ (e : Exchange). e.datagram) xs ys) (given_more (datagrams xs) (datagrams ys) waiting middle left first second)
 
-pub served-append : {P : Type 0} (ports : Ports P) (greatest : ℕ) (config : GmConfig) (xs ys : List Exchange) (p0 p1 p2 : P) (old seat new : Counts) (asks sent failed missed asks2 sent2 failed2 missed2 : ℕ) →
+pub served-append : {P : Type 0} (ports : Ports P) (greatest : ℕ) (config : GmConfig) (xs ys : List Exchange) (p0 p1 p2 : P) (old seat new : SeatCounts) (asks sent failed missed asks2 sent2 failed2 missed2 : ℕ) →
     HasServed ports greatest config xs p0 p1 old seat asks sent failed missed → HasServed ports greatest config ys p1 p2 seat new asks2 sent2 failed2 missed2 →
     HasServed ports greatest config (xs ++ ys) p0 p2 old new (asks + asks2) (sent + sent2) (failed + failed2) (missed + missed2)
 served-append ports greatest config xs ys p0 p1 p2 old seat new asks sent failed missed asks2 sent2 failed2 missed2 p q = record {
@@ -122,13 +122,13 @@ one_reply config from (Ok (heard.Asks header items)) answers = one_if_any config
 one_reply config from (Ok (heard.DelayReq header)) answers = omega arith
 one_reply config from (Err reason) answers = omega arith
 
-pub at_most_one : {P : Type 0} (ports : Ports P) (greatest : ℕ) (config : GmConfig) (e : Exchange) (port port' : P) (old new : Counts) (asks sent failed : ℕ) →
+pub at_most_one : {P : Type 0} (ports : Ports P) (greatest : ℕ) (config : GmConfig) (e : Exchange) (port port' : P) (old new : SeatCounts) (asks sent failed : ℕ) →
     HasReplied ports greatest config e port port' old new asks sent failed → sent + failed ≤ 1
 at_most_one ports greatest config e port port' old new asks sent failed r =
     omega (arith, r.hands.each, one_reply config e.datagram.ip (heard_in config e.datagram.bytes) (answers_of e))
 
 -- a datagram that was received, and then answered
-pub served_received : {P : Type 0} (ports : Ports P) (greatest : ℕ) (config : GmConfig) (e : Exchange) (port now port' : P) (old new : Counts) (asks sent failed : ℕ) →
+pub served_received : {P : Type 0} (ports : Ports P) (greatest : ℕ) (config : GmConfig) (e : Exchange) (port now port' : P) (old new : SeatCounts) (asks sent failed : ℕ) →
     IsFirstTold (ports.waiting port) e.datagram → IfTold (ports.waiting now) (rest_told (ports.waiting port)) →
     ports.sent now ≡ ports.sent port → ports.faults now ≡ ports.faults port →
     HasReplied ports greatest config e now port' old new asks sent failed →
@@ -169,7 +169,7 @@ abbrev pub IsOver : {P : Type 0} → Ports P → List Exchange → P → P → T
 IsOver ports exchanges port port' =
     (length exchanges ≡ 64) ⊎ (¬ HasRisen (ports.faults port) (ports.faults port') → IfSome (ports.waiting port') (λ later. later ≡ []))
 
-pub round_is : {P : Type 0} (ports : Ports P) (greatest : ℕ) (config : GmConfig) (exchanges : List Exchange) (port port' : P) (old new : Counts) (asks sent failed missed : ℕ) →
+pub round_is : {P : Type 0} (ports : Ports P) (greatest : ℕ) (config : GmConfig) (exchanges : List Exchange) (port port' : P) (old new : SeatCounts) (asks sent failed missed : ℕ) →
     HasServed ports greatest config exchanges port port' old new asks sent failed missed → length exchanges ≤ 64 → IsOver ports exchanges port port' →
     ¬ HasRisen (ports.faults port) (ports.faults port') →
     IfSome (ports.waiting port') (λ later. IsRound ports greatest config port port' later old.granted new.granted asks sent)
@@ -209,7 +209,7 @@ pub both_ok : {A E : Type 0} (r : Result A E) (P Q R : A → Type 0) → ((x : A
 both_ok (Ok x) P Q R makes p q = makes x p q
 both_ok (Err e) P Q R makes p q = tt
 
-pub replied_is : {P : Type 0} (ports : Ports P) (greatest : ℕ) (config : GmConfig) (from : ℕ) (octets : List ℕ) (header : Header) (items : List Item) (outcomes : List Outcome) (t : ℕ) (port port' : P) (old new : Counts) (asks sent failed : ℕ) →
+pub replied_is : {P : Type 0} (ports : Ports P) (greatest : ℕ) (config : GmConfig) (from : ℕ) (octets : List ℕ) (header : Header) (items : List Item) (outcomes : List Outcome) (t : ℕ) (port port' : P) (old new : SeatCounts) (asks sent failed : ℕ) →
     heard_in config octets ≡ Ok (heard.Asks header items) → length items ≤ 32 → map item_seen outcomes ≡ items →
     All (WasDecided greatest config t (client_of from header)) outcomes → HasAnswered config items (answers_seen outcomes) old new →
     HandsOver ports port port' (reply_if_any config from header (answers_seen outcomes)) sent failed → new.granted + new.refused ≡ old.granted + old.refused + asks →
@@ -229,7 +229,7 @@ replied_is ports greatest config from octets header items outcomes t port port' 
     }
 
 -- a datagram in which no Signaling is heard has no items, and no reply
-pub ignored_is : {P : Type 0} (ports : Ports P) (greatest : ℕ) (config : GmConfig) (from : ℕ) (octets : List ℕ) (found : Result Heard GmReason) (port : P) (counts : Counts) →
+pub ignored_is : {P : Type 0} (ports : Ports P) (greatest : ℕ) (config : GmConfig) (from : ℕ) (octets : List ℕ) (found : Result Heard GmReason) (port : P) (counts : SeatCounts) →
     heard_in config octets ≡ found → heard_items found ≡ [] → reply_with config from found [] ≡ [] → AreDecided greatest config from found [] →
     HasReplied ports greatest config (record { datagram = record { ip = from; bytes = octets }; outcomes = [] }) port port counts counts 0 0 0
 ignored_is ports greatest config from octets found port counts is none quiet decided =
@@ -247,7 +247,7 @@ ignored_is ports greatest config from octets found port counts is none quiet dec
     }
 
 -- a round that ends before it took 64 datagrams, since nothing waits after the last ones that it took, or a fault came
-pub round_over : {P : Type 0} (ports : Ports P) (greatest : ℕ) (config : GmConfig) (xs ys : List Exchange) (p0 p1 p2 : P) (old seat new : Counts) (asks sent failed missed asks2 sent2 failed2 missed2 : ℕ) →
+pub round_over : {P : Type 0} (ports : Ports P) (greatest : ℕ) (config : GmConfig) (xs ys : List Exchange) (p0 p1 p2 : P) (old seat new : SeatCounts) (asks sent failed missed asks2 sent2 failed2 missed2 : ℕ) →
     HasServed ports greatest config xs p0 p1 old seat asks sent failed missed → HasServed ports greatest config ys p1 p2 seat new asks2 sent2 failed2 missed2 →
     length xs + length ys ≤ 64 → (¬ HasRisen (ports.faults p1) (ports.faults p2) → IfSome (ports.waiting p2) (λ later. later ≡ [])) →
     ¬ HasRisen (ports.faults p0) (ports.faults p2) →
@@ -260,7 +260,7 @@ round_over ports greatest config xs ys p0 p1 p2 old seat new asks sent failed mi
 
 -- ---- what was taken, answered and counted, whatever the port's count did
 
-pub exchanged_is : {P C : Type 0} (ports : Ports P) (clocks : Clocks C) (greatest : ℕ) (config : GmConfig) (exchanges : List Exchange) (n : ℕ) (port port' : P) (clock clock' : C) (old new : Counts) (asks sent failed missed : ℕ) →
+pub exchanged_is : {P C : Type 0} (ports : Ports P) (clocks : Clocks C) (greatest : ℕ) (config : GmConfig) (exchanges : List Exchange) (n : ℕ) (port port' : P) (clock clock' : C) (old new : SeatCounts) (asks sent failed missed : ℕ) →
     HasServed ports greatest config exchanges port port' old new asks sent failed missed → n ≡ length exchanges → length exchanges ≤ 64 → missed ≤ 1 →
     PassedBy n (clocks.moments clock) (clocks.moments clock') → Exchanged ports clocks greatest config 1 sent failed port port' clock clock' old new
 exchanged_is ports clocks greatest config exchanges n port port' clock clock' old new asks sent failed missed p many few once moved = record {
@@ -282,7 +282,7 @@ exchanged_is ports clocks greatest config exchanges n port port' clock clock' ol
 }
 
 -- want of memory after these exchanges
-pub broke_off : {P C : Type 0} (ports : Ports P) (clocks : Clocks C) (greatest : ℕ) (config : GmConfig) (exchanges : List Exchange) (n : ℕ) (p0 p1 p2 : P) (c0 c1 c2 : C) (old seat new : Counts) (asks sent failed missed : ℕ) →
+pub broke_off : {P C : Type 0} (ports : Ports P) (clocks : Clocks C) (greatest : ℕ) (config : GmConfig) (exchanges : List Exchange) (n : ℕ) (p0 p1 p2 : P) (c0 c1 c2 : C) (old seat new : SeatCounts) (asks sent failed missed : ℕ) →
     HasServed ports greatest config exchanges p0 p1 old seat asks sent failed missed → n ≡ length exchanges → n < 64 →
     PassedBy n (clocks.moments c0) (clocks.moments c1) → IsUnanswered ports clocks p1 p2 c1 c2 seat new →
     BrokeOff ports clocks greatest config p0 p2 c0 c2 old new
@@ -303,7 +303,7 @@ broke_off ports clocks greatest config exchanges n p0 p1 p2 c0 c1 c2 old seat ne
 }
 
 -- a datagram that was taken of a port, which is as it was after that
-pub unanswered : {P C : Type 0} (ports : Ports P) (clocks : Clocks C) (d : Arrival) (port now port' : P) (clock clock' : C) (old new : Counts) →
+pub unanswered : {P C : Type 0} (ports : Ports P) (clocks : Clocks C) (d : Arrival) (port now port' : P) (clock clock' : C) (old new : SeatCounts) →
     port' ≡ now → IsFirstTold (ports.waiting port) d → IfTold (ports.waiting now) (rest_told (ports.waiting port)) → ports.sent now ≡ ports.sent port →
     ports.faults now ≡ ports.faults port → (old.granted ≤ new.granted) × (old.refused ≤ new.refused) →
     IfTold (clocks.moments clock') (option_map after_first (clocks.moments clock)) → IsUnanswered ports clocks port port' clock clock' old new
@@ -319,7 +319,7 @@ unanswered ports clocks d port now port' clock clock' old new same first rest un
     })
 
 -- rounds, one after the other
-pub exchanged-append : {P C : Type 0} (ports : Ports P) (clocks : Clocks C) (greatest : ℕ) (config : GmConfig) (n m sent failed sent2 failed2 : ℕ) (p0 p1 p2 : P) (c0 c1 c2 : C) (old seat new : Counts) →
+pub exchanged-append : {P C : Type 0} (ports : Ports P) (clocks : Clocks C) (greatest : ℕ) (config : GmConfig) (n m sent failed sent2 failed2 : ℕ) (p0 p1 p2 : P) (c0 c1 c2 : C) (old seat new : SeatCounts) →
     Exchanged ports clocks greatest config n sent failed p0 p1 c0 c1 old seat → Exchanged ports clocks greatest config m sent2 failed2 p1 p2 c1 c2 seat new →
     Exchanged ports clocks greatest config (n + m) (sent + sent2) (failed + failed2) p0 p2 c0 c2 old new
 exchanged-append ports clocks greatest config n m sent failed sent2 failed2 p0 p1 p2 c0 c1 c2 old seat new p q = record {
@@ -347,7 +347,7 @@ exchanged-append ports clocks greatest config n m sent failed sent2 failed2 p0 p
         ∙ sum_by-append (λ d. asks_among (items_of config d)) (datagrams p.exchanges) (datagrams q.exchanges)
 
 -- no round
-pub exchanged_none : {P C : Type 0} (ports : Ports P) (clocks : Clocks C) (greatest : ℕ) (config : GmConfig) (port : P) (clock : C) (counts : Counts) →
+pub exchanged_none : {P C : Type 0} (ports : Ports P) (clocks : Clocks C) (greatest : ℕ) (config : GmConfig) (port : P) (clock : C) (counts : SeatCounts) →
     Exchanged ports clocks greatest config 0 0 0 port port clock clock counts counts
 exchanged_none ports clocks greatest config port clock counts = record {
   exchanges = [];

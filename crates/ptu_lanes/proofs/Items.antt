@@ -10,7 +10,7 @@ use Rattle.ptu_messages.specs.declared.message.Body.TheVariants as body
 use Rattle.ptu_messages.specs.declared.message.Message.{Message}
 use Rattle.ptu_messages.specs.{declared.fault.MessageFault.{MessageFault}, Reading.{message_in}}
 use Rattle.ptu_profile.specs.declared.grandmaster.GmConfig.{GmConfig}
-use Rattle.ptu_shared.specs.Seats.{Counts}
+use Rattle.ptu_shared.specs.Seats.{SeatCounts}
 use Rattle.ptu_gm_messages.specs.declared.heard.Heard.{Heard}
 use Rattle.ptu_gm_messages.specs.declared.heard.Heard.TheVariants as heard
 use Rattle.ptu_gm_messages.specs.declared.item.{Item.{Item}, Item.TheVariants.{Request, Cancel}}
@@ -31,10 +31,10 @@ fit-append config [] (a ∷ ts) ys bs first second = absurd first
 fit-append config (x ∷ xs) [] ys bs first second = absurd first
 fit-append config (x ∷ xs) (a ∷ ts) ys bs first second = (first.0, fit-append config xs ts ys bs first.1 second)
 
-pub answered_none : (config : GmConfig) (counts : Counts) → HasAnswered config [] [] counts counts
+pub answered_none : (config : GmConfig) (counts : SeatCounts) → HasAnswered config [] [] counts counts
 answered_none config counts = record { fit = tt; granted = omega arith; refused = omega arith; counted = omega arith }
 
-pub answered-append : (config : GmConfig) (xs : List Item) (ts : List Tlv) (ys : List Item) (bs : List Tlv) (old now new : Counts) →
+pub answered-append : (config : GmConfig) (xs : List Item) (ts : List Tlv) (ys : List Item) (bs : List Tlv) (old now new : SeatCounts) →
     HasAnswered config xs ts old now → HasAnswered config ys bs now new → HasAnswered config (xs ++ ys) (ts ++ bs) old new
 answered-append config xs ts ys bs old now new p q = record {
   fit = fit-append config xs ts ys bs p.fit q.fit;
@@ -47,7 +47,7 @@ answers-push : (xs : List Outcome) (x : Outcome) → answers_seen (xs ++ x ∷ [
 answers-push xs x = ap (map answer_to) (map-append decision_seen xs (x ∷ [])) ∙ map-append answer_to (map decision_seen xs) (decision_seen x ∷ [])
 
 -- one outcome more
-pub answered_more : (config : GmConfig) (items : List Item) (outcomes : List Outcome) (item : Item) (outcome : Outcome) (old now new : Counts) →
+pub answered_more : (config : GmConfig) (items : List Item) (outcomes : List Outcome) (item : Item) (outcome : Outcome) (old now new : SeatCounts) →
     HasAnswered config items (answers_seen outcomes) old now → HasAnswered config (item ∷ []) (answer_to (decision_seen outcome) ∷ []) now new →
     HasAnswered config (items ++ item ∷ []) (answers_seen (outcomes ++ outcome ∷ [])) old new
 answered_more config items outcomes item outcome old now new p q =
@@ -72,16 +72,16 @@ asks-le [] = omega arith
 asks-le (item ∷ items) = omega (arith, sum_by-cons ask_count item items, one_ask item, asks-le items)
 
 -- so many of the items were decided, for the client
-pub record Decided (greatest : ℕ) (config : GmConfig) (t : ℕ) (client : Client) (done : List Item) (old now : Counts) (outcomes : List Outcome) : Type 0 where
+pub record Decided (greatest : ℕ) (config : GmConfig) (t : ℕ) (client : Client) (done : List Item) (old now : SeatCounts) (outcomes : List Outcome) : Type 0 where
   pub items : map item_seen outcomes ≡ done
   pub decided : All (WasDecided greatest config t client) outcomes
   pub answered : HasAnswered config done (answers_seen outcomes) old now
 
-pub none_decided : (greatest : ℕ) (config : GmConfig) (t : ℕ) (client : Client) (counts : Counts) → Decided greatest config t client [] counts counts []
+pub none_decided : (greatest : ℕ) (config : GmConfig) (t : ℕ) (client : Client) (counts : SeatCounts) → Decided greatest config t client [] counts counts []
 none_decided greatest config t client counts =
     record { items = refl; decided = All-nil (WasDecided greatest config t client); answered = answered_none config counts }
 
-pub one_more : (greatest : ℕ) (config : GmConfig) (t : ℕ) (client : Client) (done : List Item) (item : Item) (old now new : Counts) (outcomes : List Outcome) (outcome : Outcome) →
+pub one_more : (greatest : ℕ) (config : GmConfig) (t : ℕ) (client : Client) (done : List Item) (item : Item) (old now new : SeatCounts) (outcomes : List Outcome) (outcome : Outcome) →
     Decided greatest config t client done old now outcomes → item_seen outcome ≡ item → WasDecided greatest config t client outcome →
     HasAnswered config (item ∷ []) (answer_to (decision_seen outcome) ∷ []) now new →
     Decided greatest config t client (done ++ item ∷ []) old new (outcomes ++ outcome ∷ [])
@@ -93,7 +93,7 @@ one_more greatest config t client done item old now new outcomes outcome p is th
 }
 
 -- where the counts leave room for 32 asks, the next one is below 2 ^ 56
-pub room_left : (greatest : ℕ) (config : GmConfig) (t : ℕ) (client : Client) (items : List Item) (i : ℕ) (old now : Counts) (outcomes : List Outcome) →
+pub room_left : (greatest : ℕ) (config : GmConfig) (t : ℕ) (client : Client) (items : List Item) (i : ℕ) (old now : SeatCounts) (outcomes : List Outcome) →
     Decided greatest config t client (take i items) old now outcomes →
     i < length items → length items ≤ 32 → old.granted + 32 ≤ 2 ^ 56 → old.refused + 32 ≤ 2 ^ 56 → (now.granted < 2 ^ 56) × (now.refused < 2 ^ 56)
 room_left greatest config t client items i old now outcomes p lt few granted refused =

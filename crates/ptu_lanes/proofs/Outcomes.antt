@@ -3,17 +3,17 @@ use Rattle.std.proofs.Common.{◌≡◌, ◌∙◌, ℕ, refl, Result, Ok, Err}
 use Rattle.std.specs.Prelude.{IfOk}
 use Rattle.ptu_lanes.specs.declared.calls.Called.{Called}
 use Rattle.ptu_lanes.specs.declared.calls.Called.TheVariants.{Idle, Left, Served}
-use Rattle.ptu_lanes.specs.Crew.{CameTo, HasLeft, IsServed}
+use Rattle.ptu_lanes.specs.Crew.{CrewCameTo, HasLeft, IsServed}
 
 -- a lane that served did what its call came to
-pub came_served : {T : Type 0} (did : T → Type 0) (old : T) (called : Called T) (lane : T) → CameTo did old called → IsServed lane called → did lane
+pub came_served : {T : Type 0} (did : T → Type 0) (old : T) (called : Called T) (lane : T) → CrewCameTo did old called → IsServed lane called → did lane
 came_served did old (Served (Ok new)) lane came is = let same : new ≡ lane = cc is in rw same at came
 came_served did old (Served (Err fault)) lane came is = absurd (cc is)
 came_served did old (Left back) lane came is = absurd is
 came_served did old (Idle back) lane came is = rw is came.0
 
 -- one that left is as it was
-pub came_left : {T : Type 0} (did : T → Type 0) (old : T) (called : Called T) (lane : T) → CameTo did old called → HasLeft lane called → lane ≡ old
+pub came_left : {T : Type 0} (did : T → Type 0) (old : T) (called : Called T) (lane : T) → CrewCameTo did old called → HasLeft lane called → lane ≡ old
 came_left did old (Served result) lane came is = absurd is
 came_left did old (Left back) lane came is = is ∙ came
 came_left did old (Idle back) lane came is = is ∙ came.1

@@ -8,7 +8,7 @@ use Rattle.ptu_outside.specs.declared.{arrival.Arrival.{Arrival}, clock.Clock.{G
 use Rattle.ptu_outside.specs.{declared.port.Port.{Ghosts as Ports}, Faults.{HasNotFallen, HasRisen}}
 use Rattle.ptu_outside.proofs.HandsOver.{goes_on_both, not_fallen_both, not_fallen_none, rises_first, rises_second, told_both, told_none}
 use Rattle.ptu_profile.specs.declared.grandmaster.GmConfig.{GmConfig}
-use Rattle.ptu_shared.specs.{Opening.{HaveFailed}, Seats.{Counts}}
+use Rattle.ptu_shared.specs.{Opening.{HaveFailed}, Seats.{SeatCounts}}
 use Rattle.ptu_shared.proofs.Failing.{failed-append, failed_bounded, failed_none}
 use Rattle.ptu_lanes.specs.Answers.{asks_among, grants_among}
 use Rattle.ptu_lanes.specs.Rounds.{Exchange, Exchanged, IsAnswered, IsRound, answers_of, asks_in, datagrams, items_of, replies, reply_in}
@@ -47,7 +47,7 @@ gave-append n m waiting (Some between) (Some later) first second =
 
 -- ---- the lane that takes Signaling
 
-rounds_none : {P : Type 0} (ports : Ports P) (greatest : ℕ) (config : GmConfig) (port : P) (counts : Counts) →
+rounds_none : {P : Type 0} (ports : Ports P) (greatest : ℕ) (config : GmConfig) (port : P) (counts : SeatCounts) →
     IfSome (ports.waiting port) (λ later. AreRounds ports greatest config 0 port port later counts counts)
 rounds_none ports greatest config port counts = of (ports.waiting port) refl
   where
@@ -75,7 +75,7 @@ pub told_is : {A : Type 0} (told : Option A) (Fact : A → Type 0) (x : A) → t
 told_is None Fact x is fact = absurd (cc is)
 told_is (Some y) Fact x is fact = let same : y ≡ x = cc is in subst Fact same fact
 
-rounds-append : {P : Type 0} (ports : Ports P) (greatest : ℕ) (config : GmConfig) (n m : ℕ) (p0 p1 p2 : P) (left : List Arrival) (old now new : Counts) →
+rounds-append : {P : Type 0} (ports : Ports P) (greatest : ℕ) (config : GmConfig) (n m : ℕ) (p0 p1 p2 : P) (left : List Arrival) (old now new : SeatCounts) →
     IfSome (ports.waiting p1) (λ later. AreRounds ports greatest config n p0 p1 later old now) → AreRounds ports greatest config m p1 p2 left now new →
     AreRounds ports greatest config (n + m) p0 p2 left old new
 rounds-append ports greatest config n m p0 p1 p2 left old now new earlier q =
@@ -112,7 +112,7 @@ counts_more once faults faults' failed more failed' f is = λ start before.
     (failed_bounded once (failed + more) start faults' (failed-append once failed more start faults faults' before f))
 
 -- a round is one of so many
-rounds_one : {P : Type 0} (ports : Ports P) (greatest : ℕ) (config : GmConfig) (port port' : P) (left : List Arrival) (old new : Counts) (asks sent : ℕ) →
+rounds_one : {P : Type 0} (ports : Ports P) (greatest : ℕ) (config : GmConfig) (port port' : P) (left : List Arrival) (old new : SeatCounts) (asks sent : ℕ) →
     new.granted + new.refused ≡ old.granted + old.refused + asks → IsRound ports greatest config port port' left old.granted new.granted asks sent →
     AreRounds ports greatest config 1 port port' left old new
 rounds_one ports greatest config port port' left old new asks sent counted r = record {
@@ -129,7 +129,7 @@ rounds_one ports greatest config port port' left old new asks sent counted r = r
 }
 
 module _ {P C : Type 0} (ports : Ports P) (clocks : Clocks C) where
-  pub signaling_none : (greatest : ℕ) (config : GmConfig) (port : P) (clock : C) (counts : Counts) (gone failed : ℕ) →
+  pub signaling_none : (greatest : ℕ) (config : GmConfig) (port : P) (clock : C) (counts : SeatCounts) (gone failed : ℕ) →
       TookSignaling ports clocks greatest config 0 port port clock clock counts counts gone gone failed failed
   signaling_none greatest config port clock counts gone failed = record {
     did = λ same. rounds_none ports greatest config port counts;
@@ -142,7 +142,7 @@ module _ {P C : Type 0} (ports : Ports P) (clocks : Clocks C) where
     no_fall = not_fallen_none (ports.faults port);
   }
 
-  pub signaling_one : (greatest : ℕ) (config : GmConfig) (port port' : P) (clock clock' : C) (old new : Counts) (asks sent more gone gone' failed failed' : ℕ) →
+  pub signaling_one : (greatest : ℕ) (config : GmConfig) (port port' : P) (clock clock' : C) (old new : SeatCounts) (asks sent more gone gone' failed failed' : ℕ) →
       new.granted + new.refused ≡ old.granted + old.refused + asks → asks ≤ 2048 →
       (¬ HasRisen (ports.faults port) (ports.faults port') → IfSome (ports.waiting port') (λ left. IsRound ports greatest config port port' left old.granted new.granted asks sent)) →
       Exchanged ports clocks greatest config 1 sent more port port' clock clock' old new →
@@ -159,7 +159,7 @@ module _ {P C : Type 0} (ports : Ports P) (clocks : Clocks C) where
     no_fall = exchanged.failures.no_fall;
   }
 
-  pub signaling-append : (greatest : ℕ) (config : GmConfig) (n m : ℕ) (p0 p1 p2 : P) (c0 c1 c2 : C) (old now new : Counts) (g0 g1 g2 f0 f1 f2 : ℕ) →
+  pub signaling-append : (greatest : ℕ) (config : GmConfig) (n m : ℕ) (p0 p1 p2 : P) (c0 c1 c2 : C) (old now new : SeatCounts) (g0 g1 g2 f0 f1 f2 : ℕ) →
       TookSignaling ports clocks greatest config n p0 p1 c0 c1 old now g0 g1 f0 f1 → TookSignaling ports clocks greatest config m p1 p2 c1 c2 now new g1 g2 f1 f2 →
       TookSignaling ports clocks greatest config (n + m) p0 p2 c0 c2 old new g0 g2 f0 f2
   signaling-append greatest config n m p0 p1 p2 c0 c1 c2 old now new g0 g1 g2 f0 f1 f2 p q = record {

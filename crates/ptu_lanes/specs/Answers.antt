@@ -8,7 +8,7 @@ use Rattle.ptu_tlvs.specs.declared.tlv.{Ask.{Ask}, Tlv.{Tlv}}
 use Rattle.ptu_tlvs.specs.declared.tlv.Tlv.TheVariants as tlv
 use Rattle.ptu_profile.specs.declared.grandmaster.GmConfig.{GmConfig}
 use Rattle.ptu_admit.specs.declared.ending.Cancelled.{Cancelled}
-use Rattle.ptu_shared.specs.{Answers.{AnswersAsk}, Seats.{Counts}}
+use Rattle.ptu_shared.specs.{Answers.{AnswersAsk}, Seats.{SeatCounts}}
 use Rattle.ptu_gm_messages.specs.declared.item.{Item.{Item}, Item.TheVariants.{Request, Cancel}}
 use Rattle.ptu_gm_messages.specs.{Deciding.{asked_by}, Replies.{denial_of, grant_of}}
 use Rattle.ptu_grandmaster.specs.declared.outcome.Outcome.{Outcome}
@@ -55,7 +55,7 @@ abbrev pub grants_among : List Tlv → ℕ
 grants_among answers = sum_by grant_count answers
 
 -- the answers fit the items, and a seat has counted them: the grants, and all asks within the profile
-pub record HasAnswered (config : GmConfig) (items : List Item) (answers : List Tlv) (old new : Counts) : Type 0 where
+pub record HasAnswered (config : GmConfig) (items : List Item) (answers : List Tlv) (old new : SeatCounts) : Type 0 where
   pub fit : FitEach config items answers
   pub granted : new.granted ≡ old.granted + grants_among answers
   pub refused : old.refused ≤ new.refused

@@ -4,7 +4,7 @@ use Rattle.std.specs.Prelude.{◌≡◌, ℕ, ◌+◌, ◌-◌, ◌*◌, ◌^◌
 use Rattle.ptu_outside.specs.declared.{clock.Clock.{Ghosts as Clocks}, opened.Opened.{Opened}, port.Port.{Ghosts as Ports}}
 use Rattle.ptu_outside.specs.Faults.{HasRisen}
 use Rattle.ptu_profile.specs.declared.grandmaster.GmConfig.{GmConfig}
-use Rattle.ptu_shared.specs.{Opening.{HaveFailed}, Seats.{Counts}}
+use Rattle.ptu_shared.specs.{Opening.{HaveFailed}, Seats.{SeatCounts}}
 use Rattle.ptu_config.specs.{declared.settings.GmSettings.{GmSettings}, Rounds.{all_rounds}}
 use Rattle.ptu_lanes.specs.Served.{ExchangedAll, IsControlled}
 use Rattle.ptu_lanes.specs.{Stretches.{EventLaneDid, TookDelayReqs}, Waiting.{TurnedOwn}}
@@ -18,10 +18,10 @@ use Rattle.ptu_lanes.specs.declared.crew.Done.TheVariants as dones
 -- ---- one lane
 
 -- what came of the lane's call: it did this where it served, and is as it was where it left or has no work
-abbrev pub CameTo : {T : Type 0} → (T → Type 0) → T → Called T → Type 0
-CameTo did lane (Served result) = IfOk result did
-CameTo did lane (Left back) = back ≡ lane
-CameTo did lane (Idle back) = did back × (back ≡ lane)
+abbrev pub CrewCameTo : {T : Type 0} → (T → Type 0) → T → Called T → Type 0
+CrewCameTo did lane (Served result) = IfOk result did
+CrewCameTo did lane (Left back) = back ≡ lane
+CrewCameTo did lane (Idle back) = did back × (back ≡ lane)
 
 -- the call comes to this, where its thread keeps its promise
 abbrev pub Ends : {T Q : Type 0} → (Q → T → Type 0) → Call T Q → T → Type 0
@@ -30,7 +30,7 @@ Ends kept (calls.Here made) called = called ≡ made
 
 -- whatever the lane's call comes to, it did this, or is as it was
 abbrev pub IsAtWork : {T Q : Type 0} → (T → Type 0) → T → (Q → Called T → Type 0) → Call (Called T) Q → Type 0
-IsAtWork did lane kept call = (called : Called _) → Ends kept call called → CameTo did lane called
+IsAtWork did lane kept call = (called : Called _) → Ends kept call called → CrewCameTo did lane called
 
 -- the lane that served
 abbrev pub IsServed : {T : Type 0} → T → Called T → Type 0
@@ -46,11 +46,11 @@ HasLeft lane (Idle back) = lane ≡ back
 
 -- what a thread promises of the lane that takes Delay_Reqs, and of one that turns tables
 abbrev pub EventKept : {P C : Type 0} → Ports P → Clocks C → EventWork P C → Called (EventLane P C) → Type 0
-EventKept ports clocks work called = CameTo (EventLaneDid ports clocks work.rounds work.lane.value) work.lane.value called
+EventKept ports clocks work called = CrewCameTo (EventLaneDid ports clocks work.rounds work.lane.value) work.lane.value called
 
 abbrev pub SendingKept : {C : Type 0} → Clocks C → SendingWork C → Called (SendingLane C) → Type 0
 SendingKept clocks work called =
-    CameTo (λ new. TurnedOwn clocks work.position.count work.position.index work.rounds work.lane.value.clock new.clock) work.lane.value called
+    CrewCameTo (λ new. TurnedOwn clocks work.position.count work.position.index work.rounds work.lane.value.clock new.clock) work.lane.value called
 
 -- ---- all lanes
 
@@ -67,7 +67,7 @@ pub record AreTurning {C : Type 0} (clocks : Clocks C) (lanes rounds : ℕ) (old
 
 -- what the lane did that takes Signaling in all rounds, with the change of capacity: its port and its clock, before and after, what
 -- its seat has counted, how many datagrams it has counted that were sent, and how many calls of the port failed
-pub record ServedSignaling {P C : Type 0} (ports : Ports P) (clocks : Clocks C) (settings : GmSettings) (config : GmConfig) (port port' : P) (clock clock' : C) (counted : Counts) (gone failures : ℕ) : Type 0 where
+pub record ServedSignaling {P C : Type 0} (ports : Ports P) (clocks : Clocks C) (settings : GmSettings) (config : GmConfig) (port port' : P) (clock clock' : C) (counted : SeatCounts) (gone failures : ℕ) : Type 0 where
   pub control : ¬ HasRisen (ports.faults port) (ports.faults port') → IfSome (ports.waiting port') (λ left.
       IsControlled ports settings config port port' left counted.granted counted.refused)
   pub exchanged : ExchangedAll ports clocks settings config port port' clock clock' counted.granted counted.refused

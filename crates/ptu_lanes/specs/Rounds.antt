@@ -9,7 +9,7 @@ use Rattle.ptu_outside.specs.HandsOver.{HandsOver, SentOf}
 use Rattle.ptu_header.specs.declared.header.Header.{Header}
 use Rattle.ptu_tlvs.specs.declared.tlv.Tlv.{Tlv}
 use Rattle.ptu_profile.specs.declared.grandmaster.GmConfig.{GmConfig}
-use Rattle.ptu_shared.specs.{Opening.{HaveFailed}, Seats.{Counts}}
+use Rattle.ptu_shared.specs.{Opening.{HaveFailed}, Seats.{SeatCounts}}
 use Rattle.ptu_gm_messages.specs.declared.heard.Heard.{Heard}
 use Rattle.ptu_gm_messages.specs.declared.heard.Heard.TheVariants as heard
 use Rattle.ptu_gm_messages.specs.declared.{item.Item.{Item}, reason.GmReason.{GmReason}}
@@ -82,7 +82,7 @@ grants_in exchanges = sum_by (λ e. grants_among (answers_of e)) exchanges
 
 -- the items of the exchange's datagram were answered so, and the reply was sent or its send failed: the port, and what the
 -- lane's seat has counted, before and after
-pub record HasReplied {P : Type 0} (ports : Ports P) (greatest : ℕ) (config : GmConfig) (exchange : Exchange) (port port' : P) (old new : Counts) (asks sent failed : ℕ) : Type 0 where
+pub record HasReplied {P : Type 0} (ports : Ports P) (greatest : ℕ) (config : GmConfig) (exchange : Exchange) (port port' : P) (old new : SeatCounts) (asks sent failed : ℕ) : Type 0 where
   pub is : IsAnswered greatest config exchange
   pub answered : HasAnswered config (items_of config exchange.datagram) (answers_of exchange) old new
   pub asks_are : new.granted + new.refused ≡ old.granted + old.refused + asks
@@ -91,7 +91,7 @@ pub record HasReplied {P : Type 0} (ports : Ports P) (greatest : ℕ) (config : 
 
 -- a lane has had these exchanges: its port, and what its seat has counted, before and after; so many asks were decided, so
 -- many replies were sent, and so many calls of the port failed, of which so many are receives
-pub record HasServed {P : Type 0} (ports : Ports P) (greatest : ℕ) (config : GmConfig) (exchanges : List Exchange) (port port' : P) (old new : Counts) (asks sent failed missed : ℕ) : Type 0 where
+pub record HasServed {P : Type 0} (ports : Ports P) (greatest : ℕ) (config : GmConfig) (exchanges : List Exchange) (port port' : P) (old new : SeatCounts) (asks sent failed missed : ℕ) : Type 0 where
   pub given : IfSome (ports.waiting port') (λ later. ports.waiting port ≡ Some (datagrams exchanges ++ later))
   pub answered : All (IsAnswered greatest config) exchanges
   pub granted : new.granted ≡ old.granted + grants_in exchanges
@@ -132,7 +132,7 @@ pub record IsRound {P : Type 0} (ports : Ports P) (greatest : ℕ) (config : GmC
 -- exchanges a round, the datagrams of which are the first that waited where the port still tells that; each was taken at a new moment
 -- of the clock; its seat has counted the grants among the answers, and all asks within the profile; and of the replies the port was
 -- sent so many, in order. So many calls of the port failed: each send of another reply, and one receive a round at most, which ends it.
-pub record Exchanged {P C : Type 0} (ports : Ports P) (clocks : Clocks C) (greatest : ℕ) (config : GmConfig) (rounds sent failed : ℕ) (port port' : P) (clock clock' : C) (old new : Counts) : Type 0 where
+pub record Exchanged {P C : Type 0} (ports : Ports P) (clocks : Clocks C) (greatest : ℕ) (config : GmConfig) (rounds sent failed : ℕ) (port port' : P) (clock clock' : C) (old new : SeatCounts) : Type 0 where
   pub exchanges : List Exchange
   pub few : length exchanges ≤ 64 * rounds
   pub given : IfSome (ports.waiting port') (λ later. ports.waiting port ≡ Some (datagrams exchanges ++ later))
@@ -147,7 +147,7 @@ pub record Exchanged {P C : Type 0} (ports : Ports P) (clocks : Clocks C) (great
   pub failures : HaveFailed ports.counts_once failed (ports.faults port) (ports.faults port')
 
 -- a datagram was taken at a new moment, and nothing was sent; what was decided of it stands, and the lane's seat has counted that
-pub record IsUnanswered {P C : Type 0} (ports : Ports P) (clocks : Clocks C) (port port' : P) (clock clock' : C) (old new : Counts) : Type 0 where
+pub record IsUnanswered {P C : Type 0} (ports : Ports P) (clocks : Clocks C) (port port' : P) (clock clock' : C) (old new : SeatCounts) : Type 0 where
   pub datagram : Arrival
   pub given : IfSome (ports.waiting port') (λ later. ports.waiting port ≡ Some (datagram ∷ [] ++ later))
   pub unsent : ports.sent port' ≡ ports.sent port
@@ -159,7 +159,7 @@ pub record IsUnanswered {P C : Type 0} (ports : Ports P) (clocks : Clocks C) (po
 -- the lane found no memory at the datagram after these exchanges, of which each was finished: of their replies, one for each that has
 -- an item, the port was sent so many, in order, and all where its count did not rise, and nothing of a reply to the last datagram; what
 -- waited after that still waits; what was decided stands, and its seat has counted that
-pub record BrokeOff {P C : Type 0} (ports : Ports P) (clocks : Clocks C) (greatest : ℕ) (config : GmConfig) (port port' : P) (clock clock' : C) (old new : Counts) : Type 0 where
+pub record BrokeOff {P C : Type 0} (ports : Ports P) (clocks : Clocks C) (greatest : ℕ) (config : GmConfig) (port port' : P) (clock clock' : C) (old new : SeatCounts) : Type 0 where
   pub exchanges : List Exchange
   pub last : Arrival
   pub few : length exchanges < 64

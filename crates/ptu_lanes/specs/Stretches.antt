@@ -4,7 +4,7 @@ use Rattle.std.specs.List.{All}
 use Rattle.ptu_outside.specs.declared.{arrival.Arrival.{Arrival}, clock.Clock.{Ghosts as Clocks}}
 use Rattle.ptu_outside.specs.{declared.port.Port.{Ghosts as Ports}, Faults.{HasNotFallen, HasRisen}}
 use Rattle.ptu_profile.specs.declared.grandmaster.GmConfig.{GmConfig}
-use Rattle.ptu_shared.specs.{Opening.{HaveFailed}, Seats.{Counts}}
+use Rattle.ptu_shared.specs.{Opening.{HaveFailed}, Seats.{SeatCounts}}
 use Rattle.ptu_lanes.specs.Rounds.{Exchange, Exchanged, IsAnswered, asks_in, datagrams, grants_in, replies}
 use Rattle.ptu_lanes.specs.{Sending.{GoesOn, WasSent}, Waiting.{GaveFirst, MissedFew, Took, TurnedOwn}}
 use Rattle.ptu_lanes.specs.declared.lanes.{ControlLane.{ControlLane}, EventLane.{EventLane}}
@@ -13,7 +13,7 @@ use Rattle.ptu_lanes.specs.declared.lanes.SendingLanes.{SendingLanes}
 -- so many rounds at a port that tells what waits: the lane took the first 64 datagrams for each round, or all where there are
 -- fewer, and sent one reply for each that has an item, in order, and nothing else; the port goes on to tell, unless a reply
 -- was such that it may cease to; and the lane's seat has counted the answers
-pub record AreRounds {P : Type 0} (ports : Ports P) (greatest : ℕ) (config : GmConfig) (rounds : ℕ) (port port' : P) (left : List Arrival) (old new : Counts) : Type 0 where
+pub record AreRounds {P : Type 0} (ports : Ports P) (greatest : ℕ) (config : GmConfig) (rounds : ℕ) (port port' : P) (left : List Arrival) (old new : SeatCounts) : Type 0 where
   pub waited : List Arrival
   pub all : ports.waiting port ≡ Some waited
   pub exchanges : List Exchange
@@ -35,7 +35,7 @@ CountsSends sent more sent' = (start : ℕ) → sent ≡ min start (2 ^ 128 - 1)
 
 -- what the lane that takes Signaling did in so many rounds: its port, its clock, what its seat has counted, how many datagrams it has
 -- counted that were sent, and how many calls of the port that failed, before and after
-pub record TookSignaling {P C : Type 0} (ports : Ports P) (clocks : Clocks C) (greatest : ℕ) (config : GmConfig) (rounds : ℕ) (port port' : P) (clock clock' : C) (old new : Counts) (gone gone' failed failed' : ℕ) : Type 0 where
+pub record TookSignaling {P C : Type 0} (ports : Ports P) (clocks : Clocks C) (greatest : ℕ) (config : GmConfig) (rounds : ℕ) (port port' : P) (clock clock' : C) (old new : SeatCounts) (gone gone' failed failed' : ℕ) : Type 0 where
   pub did : ¬ HasRisen (ports.faults port) (ports.faults port') → IfSome (ports.waiting port') (λ left.
       AreRounds ports greatest config rounds port port' left old new)
   pub sent : ℕ

@@ -7,7 +7,7 @@ ghost use Rattle.ptu_profile.specs.Grandmaster.{IsWithinLimits};
 ghost use Rattle.ptu_shared.specs.{Blanks.{IsBlankOf}, Opening.{seen_of}, Seats.{no_verdicts}};
 ghost use Rattle.ptu_config.specs.{Limits.{IsGmInRange}, Rounds.{all_rounds}};
 ghost use Rattle.ptu_lanes.specs.Changing.{greatest_capacity};
-ghost use Rattle.ptu_lanes.specs.Crew.{AreTurning, CameTo, Ends, EventKept, HasDone, HasLeft, IsAtWork, IsServed, IsTurning, SendingKept, ServedSignaling};
+ghost use Rattle.ptu_lanes.specs.Crew.{AreTurning, CrewCameTo, Ends, EventKept, HasDone, HasLeft, IsAtWork, IsServed, IsTurning, SendingKept, ServedSignaling};
 ghost use Rattle.ptu_lanes.specs.{Stretches.{EventLaneDid, HaveTurned}, Waiting.{TurnedOwn}};
 
 use crate::calls::{Call, Called, EventCall, EventWork, SendingCall, SendingCalls, SendingWork};
@@ -122,7 +122,7 @@ where
         requires most { L.most ≡ greatest_capacity settings.now }
         requires seat { lane.seat ≡ no_verdicts }
         requires tally { (lane.tally.sent ≡ 0) × (lane.tally.failed ≡ 0) }
-        ensures { CameTo (λ new. ServedSignaling P.Port C.Clock settings.now self.now.config.now
+        ensures { CrewCameTo (λ new. ServedSignaling P.Port C.Clock settings.now self.now.config.now
             lane.port new.port lane.clock new.clock new.seat new.tally.sent new.tally.failed)
             lane result }
     {
@@ -140,7 +140,7 @@ where
     fn call_event<C: Clock>(&self, lane: EventLane<P, C>) -> Called<EventLane<P, C>>
         requires limits { IsWithinLimits self.now.config.now }
         requires config { self.now.config.now ≡ L.config }
-        ensures { CameTo (EventLaneDid P.Port C.Clock self.now.rounds.count lane) lane result }
+        ensures { CrewCameTo (EventLaneDid P.Port C.Clock self.now.rounds.count lane) lane result }
     {
         match self.service() {
             Some(service) => Called::Served(service.take_part_delay_reqs(&self.rounds, lane)),
@@ -157,7 +157,7 @@ where
         requires limits { IsWithinLimits self.now.config.now }
         requires config { self.now.config.now ≡ L.config }
         requires index { (position.index < position.count) × (position.count ≤ 4) }
-        ensures { CameTo (λ new. TurnedOwn C.Clock position.count position.index
+        ensures { CrewCameTo (λ new. TurnedOwn C.Clock position.count position.index
             self.now.rounds.count lane.clock new.clock) lane result }
     {
         match self.service() {

@@ -36,10 +36,10 @@ HasMessageFault octets (faults.Tlv at fault) =
 HasMessageFault octets faults.OutOfMemory = ⊥
 
 -- what a person is told of it
-abbrev pub text_of : MessageFault → List ℕ
-text_of (faults.Header fault) = headers.text_of fault
-text_of (faults.Body said need) =
+abbrev pub message_fault_text : MessageFault → List ℕ
+message_fault_text (faults.Header fault) = headers.header_fault_text fault
+message_fault_text (faults.Body said need) =
     codes "messageLength is " ++ (decimal said ++ (codes " and below the " ++ (decimal need ++ codes " of its messageType")))
-text_of (faults.TooMany at) = codes "a 33rd TLV begins at octet " ++ decimal at
-text_of (faults.Tlv at fault) = codes "TLV at octet " ++ (decimal at ++ (codes ": " ++ tlvs.text_of fault))
-text_of faults.OutOfMemory = codes "out of memory"
+message_fault_text (faults.TooMany at) = codes "a 33rd TLV begins at octet " ++ decimal at
+message_fault_text (faults.Tlv at fault) = codes "TLV at octet " ++ (decimal at ++ (codes ": " ++ tlvs.tlv_fault_text fault))
+message_fault_text faults.OutOfMemory = codes "out of memory"

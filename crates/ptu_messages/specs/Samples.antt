@@ -10,9 +10,9 @@ use Rattle.ptu_messages.specs.declared.message.Message.{Message}
 use Rattle.ptu_messages.specs.declared.fault.MessageFault.TheVariants as faults
 use Rattle.ptu_messages.specs.{Reading.{message_in}, Sent.{sent_message}}
 
--- port 1 of a client and of a grandmaster
-abbrev pub client : PortIdentity
-client = record { clock = 0x0a00000000000011; port = 1 }
+-- port 1 of a sample_client and of a grandmaster
+abbrev pub sample_client : PortIdentity
+sample_client = record { clock = 0x0a00000000000011; port = 1 }
 
 abbrev pub grandmaster : PortIdentity
 grandmaster = record { clock = 0x0a00000000000001; port = 1 }
@@ -43,7 +43,7 @@ delay_resp =
     ++ 0x00 ∷ 0x00 ∷ 0x00 ∷ 0x00 ∷ 0x00 ∷ 0x0a ∷ 0x00 ∷ 0x00 ∷ 0x01 ∷ 0x2c ∷ [] ++ client_octets
 
 abbrev pub response : Message
-response = record { header = header 9 grandmaster 7; body = DelayResp (record { seconds = 10; nanos = 300 }) client }
+response = record { header = header 9 grandmaster 7; body = DelayResp (record { seconds = 10; nanos = 300 }) sample_client }
 
 -- an Announce of clockClass 84 at 2.001 s
 abbrev pub announce : List ℕ
@@ -70,7 +70,7 @@ announced =
       });
     }
 
--- a Signaling of n octets from the client to the grandmaster, with these TLVs
+-- a Signaling of n octets from the sample_client to the grandmaster, with these TLVs
 abbrev pub to_grandmaster : ℕ → List ℕ → List ℕ
 to_grandmaster n values = octets_before 12 n ++ client_octets ++ 0x00 ∷ 0x00 ∷ 0x05 ∷ 0x7f ∷ [] ++ grandmaster_octets ++ values
 
@@ -85,18 +85,18 @@ abbrev pub request : Tlv
 request = Request (record { code = 11; log = pos 1; seconds = 300 })
 
 abbrev pub asked : List Tlv → Message
-asked values = record { header = header 12 client 0; body = Signaling grandmaster values }
+asked values = record { header = header 12 sample_client 0; body = Signaling grandmaster values }
 
 -- they are read so, also where octets follow that belong to no message, and where reserved ones are not 0
 abbrev pub MessagesAreSpelled : Type 0
 MessagesAreSpelled =
-    (message_in delay_req ≡ Ok (record { header = header 1 client 7; body = DelayReq (record { seconds = 0; nanos = 0 }) }))
+    (message_in delay_req ≡ Ok (record { header = header 1 sample_client 7; body = DelayReq (record { seconds = 0; nanos = 0 }) }))
     × (message_in (delay_resp ++ 0xde ∷ 0xad ∷ []) ≡ Ok response)
     × (message_in (slice_set announce 46 0xff) ≡ Ok announced)
     × (message_in (to_grandmaster 60 (other_octets ++ request_octets)) ≡ Ok (asked (Other 0x3000 2 ∷ request ∷ [])))
     × (message_in (to_grandmaster 50 (other_octets ++ request_octets)) ≡ Ok (asked (Other 0x3000 2 ∷ [])))
     × (message_in (to_grandmaster 44 []) ≡ Ok (asked []))
-    × (message_in (slice_set delay_req 0 0x02) ≡ Ok (record { header = header 2 client 7; body = Ignored }))
+    × (message_in (slice_set delay_req 0 0x02) ≡ Ok (record { header = header 2 sample_client 7; body = Ignored }))
 
 -- each fault, counted from the first octet of the datagram, and the first of two
 abbrev pub FaultsAreFound : Type 0

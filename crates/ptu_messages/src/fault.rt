@@ -1,7 +1,7 @@
 //! Why the octets of a datagram spell no message.
 
 ghost use Rattle.std.specs.Prelude.{◌≡◌, Some};
-ghost use Rattle.ptu_messages.specs.MessageFault.{text_of};
+ghost use Rattle.ptu_messages.specs.MessageFault.{message_fault_text};
 
 use ptu_header::HeaderFault;
 use ptu_tlvs::TlvFault;
@@ -39,7 +39,7 @@ pub enum MessageFault {
 }
 
 impl fmt::Display for MessageFault {
-    ghost output = { λ f. Some (text_of f) };
+    ghost output = { λ f. Some (message_fault_text f) };
 
     fn fmt<W: fmt::Write>(&self, f: &mut fmt::Formatter<W>) -> fmt::Result {
         match *self {

@@ -1,6 +1,6 @@
 -- The ports of a grandmaster of a script.
 use Rattle.std.specs.Prelude.{◌≡◌, ℕ, ◌+◌, ◌≤◌, List, ◌++◌, length}
-use Rattle.ptu_outside.specs.{Departure.{Departure}, MemoryPort.{MemoryPort, octets_of}}
+use Rattle.ptu_outside.specs.{Departure.{Departure}, MemoryPort.{MemoryPort, departure_octets}}
 use Rattle.ptu_history.specs.History.{Record}
 use Rattle.ptu_grandmaster.specs.Gm.{KeptGm, StandsFor}
 
@@ -12,7 +12,7 @@ in_ports gm =
 -- there is room for so many datagrams more, and for so many octets in them
 abbrev pub HasRoom : ℕ → ℕ → MemoryPort → Type 0
 HasRoom datagrams octets port =
-    (length port.sent + datagrams ≤ port.datagrams) × (octets_of port.sent + octets ≤ port.octets)
+    (length port.sent + datagrams ≤ port.datagrams) × (departure_octets port.sent + octets ≤ port.octets)
 
 -- there is room for the one datagram that may answer another: a Delay_Resp in the port of each table, or a Signaling in that of the
 -- replies

@@ -10,8 +10,8 @@ use Rattle.ptu_world.specs.Deeds as world
 use Rattle.ptu_nodes.specs.declared.grandmaster_node.GrandmasterNode.{GrandmasterNode}
 
 -- the settings of a grandmaster that a line sets up; its timescale begins at 0
-abbrev pub config_of : GrandmasterSetup → GmConfig
-config_of setup =
+abbrev pub setup_config : GrandmasterSetup → GmConfig
+setup_config setup =
     let identity : PortIdentity = record { clock = setup.clock; port = setup.port } in
     record { identity = identity; domain = setup.domain; class = setup.class; max_duration = setup.max_duration; epoch = 0 }
 

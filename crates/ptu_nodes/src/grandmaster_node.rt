@@ -25,7 +25,7 @@ use std::alloc::Global;
 
 /// The settings of a grandmaster that a line sets up. Its timescale begins at 0.
 pub fn config_of(setup: &GrandmasterSetup) -> GmConfig
-    ensures value { result ≡ standing.config_of setup.now }
+    ensures value { result ≡ standing.setup_config setup.now }
 {
     GmConfig {
         identity: PortIdentity {

@@ -5,7 +5,7 @@ use Rattle.std.proofs.lemmas.List.{drop-append-le, take-append-le, length-take-l
 use Rattle.std.proofs.Math.Seq.{drop-append_seam, take-length}
 use Rattle.std.proofs.lemmas.List.Sums.{sum_by-cons, sum_by-append}
 use Rattle.ptu_outside.specs.{declared.mem_port.Slot.{Slot}, Departure.{Departure}}
-use Rattle.ptu_outside.specs.MemoryPort.{IsLaidOut, departure_of, departures, octets_of}
+use Rattle.ptu_outside.specs.MemoryPort.{IsLaidOut, slot_departure, departures, departure_octets}
 
 abbrev IsRange : List ℕ → Slot → Type 0
 IsRange octets s = (s.start ≤ s.end) × (s.end ≤ length octets)
@@ -34,13 +34,13 @@ within-push octets (x ∷ xs) s all h = (all.0, within-push octets xs s all.1 h)
 length-range : (octets : List ℕ) (a b : ℕ) → a ≤ b → b ≤ length octets → length (slice_range octets a b) ≡ b - a
 length-range octets a b le within = length-take-le (b - a) (drop a octets) (rw (length-drop a octets) (omega arith))
 
-octets_of-sizes : (octets : List ℕ) (slots : List Slot) → AllByRecursion (IsRange octets) slots → octets_of (departures octets slots) ≡ sum_by size slots
+octets_of-sizes : (octets : List ℕ) (slots : List Slot) → AllByRecursion (IsRange octets) slots → departure_octets (departures octets slots) ≡ sum_by size slots
 octets_of-sizes octets [] all = refl
 octets_of-sizes octets (s ∷ ss) all =
-    rw (sum_by-cons (λ (d : Departure). length d.bytes) (departure_of octets s) (departures octets ss), sum_by-cons size s ss, length-range octets s.start s.end all.0.0 all.0.1, octets_of-sizes octets ss all.1) refl
+    rw (sum_by-cons (λ (d : Departure). length d.bytes) (slot_departure octets s) (departures octets ss), sum_by-cons size s ss, length-range octets s.start s.end all.0.0 all.0.1, octets_of-sizes octets ss all.1) refl
 
 -- the datagrams have as many octets as there are
-pub octets_of-departures : (octets : List ℕ) (slots : List Slot) → IsLaidOut octets slots → octets_of (departures octets slots) ≡ length octets
+pub octets_of-departures : (octets : List ℕ) (slots : List Slot) → IsLaidOut octets slots → departure_octets (departures octets slots) ≡ length octets
 octets_of-departures octets slots h = octets_of-sizes octets slots h.within ∙ h.whole
 
 -- a slot for the octets that come behind
@@ -58,4 +58,4 @@ pub departures-push : (octets bytes : List ℕ) (slots : List Slot) (s : Slot) �
 departures-push octets bytes slots s h at =
     let behind : slice_range (octets ++ bytes) s.start s.end ≡ bytes =
     rw (at.0, drop-append_seam octets bytes) (ap (λ n. take n bytes) (omega arith) ∙ take-length bytes) in
-    map-append (departure_of (octets ++ bytes)) slots (s ∷ []) ∙ rw (departures-append octets bytes slots h.within, behind) refl
+    map-append (slot_departure (octets ++ bytes)) slots (s ∷ []) ∙ rw (departures-append octets bytes slots h.within, behind) refl

@@ -28,20 +28,20 @@ pub record IsIdle (port : MemoryPort) : Type 0 where
   pub faults : port.faults ≡ 0
 
 -- how many octets the datagrams have together
-abbrev pub octets_of : List Departure → ℕ
-octets_of sent = sum_by (λ d. length d.bytes) sent
+abbrev pub departure_octets : List Departure → ℕ
+departure_octets sent = sum_by (λ d. length d.bytes) sent
 
 -- no datagram that waits is longer than a datagram may be
 abbrev pub FitAll : List Arrival → Type 0
 FitAll arrivals = AllByRecursion (λ (a : Arrival). length a.bytes ≤ 2048) arrivals
 
 -- the datagrams whose octets stand one behind the other
-abbrev pub departure_of : List ℕ → Slot → Departure
-departure_of octets slot =
+abbrev pub slot_departure : List ℕ → Slot → Departure
+slot_departure octets slot =
     record { ip = slot.ip; channel = slot.channel; bytes = slice_range octets slot.start slot.end }
 
 abbrev pub departures : List ℕ → List Slot → List Departure
-departures octets slots = map (departure_of octets) slots
+departures octets slots = map (slot_departure octets) slots
 
 -- each slot is a range of the octets, and together they are as long as these
 pub record IsLaidOut (octets : List ℕ) (slots : List Slot) : Type 0 where
@@ -52,4 +52,4 @@ pub record IsLaidOut (octets : List ℕ) (slots : List Slot) : Type 0 where
 pub record IsSure (port : MemoryPort) (more : List Departure) : Type 0 where
   pub unlisted : port.failing_sends ≡ []
   pub datagrams : length port.sent + length more ≤ port.datagrams
-  pub octets : octets_of port.sent + octets_of more ≤ port.octets
+  pub octets : departure_octets port.sent + departure_octets more ≤ port.octets

@@ -4,7 +4,7 @@
 ghost use Rattle.std.specs.Prelude.{◌≡◌, ◌<◌, ◌≤◌, ◌+◌, ◌⊎◌, ◌↔◌, List, [], ◌∷◌, ◌++◌, Some, length, take, drop, slice_get, vec_len, vec_capacity, IfOk, OnOk, OnErr, IfSome, IfNone, IsErr, IsOk, is_err, MatchOption, if◌then◌else◌, Contains};
 ghost use Rattle.ptu_outside.specs.Departure.{Departure};
 ghost use Rattle.ptu_outside.specs.Faults.{HasRisen, HasNotFallen, one_more};
-ghost use Rattle.ptu_outside.specs.MemoryPort.{IsLaidOut, IsSure, FitAll, departures, octets_of};
+ghost use Rattle.ptu_outside.specs.MemoryPort.{IsLaidOut, IsSure, FitAll, departures, departure_octets};
 ghost use Rattle.ptu_outside.specs.Telling.{IfTold, IsFirstTold, IsEmptyTold, append_told, rest_told};
 
 use crate::arrival::Arrival;
@@ -99,9 +99,9 @@ impl MemPort {
     /// `OutOfMemory`, only where that room was missing.
     pub fn reserve(&mut self, messages: usize, octets: usize) -> Result<(), OutOfMemory>
         ensures datagrams { OnOk result (length self.old.sent + messages ≤ self.new.datagrams) }
-        ensures octets { OnOk result (octets_of self.old.sent + octets ≤ self.new.octets) }
+        ensures octets { OnOk result (departure_octets self.old.sent + octets ≤ self.new.octets) }
         ensures full { OnErr result ((self.old.datagrams < length self.old.sent + messages)
-            ⊎ (self.old.octets < octets_of self.old.sent + octets)) }
+            ⊎ (self.old.octets < departure_octets self.old.sent + octets)) }
         ensures no_loss { (self.old.datagrams ≤ self.new.datagrams)
             × (self.old.octets ≤ self.new.octets) }
         ensures same { self.new
@@ -223,7 +223,7 @@ impl Port for MemPort {
         ensures listed { Contains self.old.failing_sends self.new.sends → IsErr result }
         ensures fits { ¬ Contains self.old.failing_sends self.new.sends
             → length self.old.sent + 1 ≤ self.old.datagrams
-            → octets_of self.old.sent + length bytes.now ≤ self.old.octets → IsOk result }
+            → departure_octets self.old.sent + length bytes.now ≤ self.old.octets → IsOk result }
         ensures faults { self.new.faults
             ≡ (if is_err result then one_more self.old.faults else self.old.faults) }
         ensures sends { self.new.sends ≡ one_more self.old.sends }

@@ -8,22 +8,22 @@ use Rattle.ptu_pools.specs.{declared.pool.Pool.{Pool}, Events.{PoolEvent, Turned
 use Rattle.ptu_pools.specs.Standing.{KeptPools}
 use Rattle.ptu_pool_run.specs.declared.cause.PoolCause.{PoolCause}
 use Rattle.ptu_pool_run.specs.declared.cause.PoolCause.TheVariants.{Number, Order}
-use Rattle.ptu_pool_run.specs.{Output.{line_text}, declared.pouring.Pouring.{Pouring}}
-use Rattle.ptu_pool_run.specs.Reading.{At, Told, behind_pools, events_of, happened, set_up, sold, sold_by, turned}
-use Rattle.ptu_pool_run.specs.{Selling.{refusal_of}, Sending.{lines_of_event}}
+use Rattle.ptu_pool_run.specs.{Output.{pool_line_text}, declared.pouring.Pouring.{Pouring}}
+use Rattle.ptu_pool_run.specs.Reading.{At, Told, behind_pools, pool_events, happened, told_setup, sold, sold_by, turned}
+use Rattle.ptu_pool_run.specs.{Selling.{selling_refusal}, Sending.{lines_of_event}}
 use Rattle.ptu_pool_run.specs.Standing.{AreSold, HasHappened, HaveSold, StandsFor, has_events, pools_of}
 use Rattle.ptu_pool_run.proofs.Sold.{none_share}
 
 -- ---- the grandmaster is set up
 
 pub set_up_again : (told : Told) (setup before : GrandmasterSetup) (p after : Pouring) → StandsFor p told → p.setup ≡ Some before →
-    IsOutcome (set_up told setup told.setup) (StandsFor after) [] (Some Order)
-set_up_again told setup before p after s is = subst (λ o. IsOutcome (set_up told setup o) (StandsFor after) [] (Some Order)) (sym (s.setup ∙ is)) refl
+    IsOutcome (told_setup told setup told.setup) (StandsFor after) [] (Some Order)
+set_up_again told setup before p after s is = subst (λ o. IsOutcome (told_setup told setup o) (StandsFor after) [] (Some Order)) (sym (s.setup ∙ is)) refl
 
 pub set_up_once : (told : Told) (setup : GrandmasterSetup) (p : Pouring) → StandsFor p told → p.setup ≡ None →
-    IsOutcome (set_up told setup told.setup) (StandsFor (record p { setup = Some setup })) [] None
+    IsOutcome (told_setup told setup told.setup) (StandsFor (record p { setup = Some setup })) [] None
 set_up_once told setup p s none =
-    subst (λ o. IsOutcome (set_up told setup o) (StandsFor (record p { setup = Some setup })) [] None) (sym (s.setup ∙ none))
+    subst (λ o. IsOutcome (told_setup told setup o) (StandsFor (record p { setup = Some setup })) [] None) (sym (s.setup ∙ none))
     (record { setup = refl; begun = s.begun; sold = by p.setup p.pools none s.sold }, refl)
   where
     by : (o : Option GrandmasterSetup) (k : Option (KeptPools MemoryPort)) → o ≡ None → HaveSold o k told → HaveSold (Some setup) k (record told { setup = Some setup })
@@ -70,7 +70,7 @@ none_happened (event ∷ events) e = absurd (let never : true ≡ false = e in c
 
 module _ (told : Told) (pool : Pool) (setup : GrandmasterSetup) (p : Pouring) (s : StandsFor p told) (is : p.setup ≡ Some setup) (begun : p.has_begun ≡ false) where
   abbrev cause : Option PoolCause
-  cause = refusal_of setup.capacity (pools_of p.pools) pool
+  cause = selling_refusal setup.capacity (pools_of p.pools) pool
 
   no_events : told.events ≡ []
   no_events = none_happened told.events (sym s.begun ∙ begun)
@@ -78,7 +78,7 @@ module _ (told : Told) (pool : Pool) (setup : GrandmasterSetup) (p : Pouring) (s
   outcome_is : sold told pool told.setup told.events ≡ sold_by told pool cause
   outcome_is =
       ap (λ o. sold told pool o told.events) (s.setup ∙ is) ∙ ap (sold told pool (Some setup)) no_events
-      ∙ ap (λ l. sold_by told pool (refusal_of setup.capacity l pool)) (sold_are p told s)
+      ∙ ap (λ l. sold_by told pool (selling_refusal setup.capacity l pool)) (sold_are p told s)
 
   pub sold_refused : (found : PoolCause) (after : Pouring) → cause ≡ Some found → IsOutcome (sold told pool told.setup told.events) (StandsFor after) [] (Some found)
   sold_refused found after e = subst (λ o. IsOutcome o (StandsFor after) [] (Some found)) (sym (outcome_is ∙ ap (sold_by told pool) e)) refl
@@ -91,7 +91,7 @@ module _ (told : Told) (pool : Pool) (setup : GrandmasterSetup) (p : Pouring) (s
           setup = s.setup;
           begun = s.begun;
           sold = subst (λ o. HaveSold o (Some kept) (record told { pools = told.pools ++ pool ∷ [] })) (sym is)
-              (ap (λ l. l ++ pool ∷ []) (sold_are p told s) ∙ sym pools_are, subst (λ (l : List At). AreSold setup kept (events_of l)) (sym no_events) are_sold);
+              (ap (λ l. l ++ pool ∷ []) (sold_are p told s) ∙ sym pools_are, subst (λ (l : List At). AreSold setup kept (pool_events l)) (sym no_events) are_sold);
         },
         refl,
       )
@@ -111,7 +111,7 @@ pub record HasPools (told : Told) (p : Pouring) (kept : KeptPools MemoryPort) : 
   pub setup : GrandmasterSetup
   pub is : p.setup ≡ Some setup
   pub pools : told.pools ≡ kept.pools
-  pub sold : AreSold setup kept (events_of told.events)
+  pub sold : AreSold setup kept (pool_events told.events)
 
 pub has_pools : (told : Told) (p : Pouring) (kept : KeptPools MemoryPort) → StandsFor p told → p.pools ≡ Some kept → HasPools told p kept
 has_pools told p kept s is = by p.setup refl (subst (λ k. HaveSold p.setup k told) is s.sold)
@@ -136,7 +136,7 @@ module _ (told : Told) (p : Pouring) (kept : KeptPools MemoryPort) (s : StandsFo
       ∙ behind_some h.setup told.pools then_ (subst (λ (l : List Pool). 1 ≤ length l) (sym h.pools) h.sold.some)
 
   happened_so : (line : ℕ) (event : PoolEvent) (kept' : KeptPools MemoryPort) (texts' : List (List ℕ)) →
-      HasHappened h.setup line (events_of told.events) event kept kept' [] texts' →
+      HasHappened h.setup line (pool_events told.events) event kept kept' [] texts' →
       IsOutcome (happened told line event h.setup) (StandsFor (record { setup = p.setup; pools = Some kept'; has_begun = true })) texts' None
   happened_so line event kept' texts' has = (
     record {
@@ -145,18 +145,18 @@ module _ (told : Told) (p : Pouring) (kept : KeptPools MemoryPort) (s : StandsFo
       sold = subst (λ o. HaveSold o (Some kept') (record told { events = told.events ++ (line, event) ∷ [] })) (sym h.is)
           (h.pools ∙ sym has.pools, subst (AreSold h.setup kept') (sym (map-append (λ (at : At). at.1) told.events ((line, event) ∷ []))) has.sold);
     },
-    has.says ∙ ap (λ (l : List Pool). map line_text (lines_of_event h.setup l (events_of told.events) line event)) (sym h.pools),
+    has.says ∙ ap (λ (l : List Pool). map pool_line_text (lines_of_event h.setup l (pool_events told.events) line event)) (sym h.pools),
   )
 
   pub came_so : (line : ℕ) (event : PoolEvent) (kept' : KeptPools MemoryPort) (texts' : List (List ℕ)) →
-      HasHappened h.setup line (events_of told.events) event kept kept' [] texts' →
+      HasHappened h.setup line (pool_events told.events) event kept kept' [] texts' →
       IsOutcome (behind_pools told.setup told.pools (happened told line event)) (StandsFor (record { setup = p.setup; pools = Some kept'; has_begun = true })) texts' None
   came_so line event kept' texts' has =
       subst (λ o. IsOutcome o (StandsFor (record { setup = p.setup; pools = Some kept'; has_begun = true })) texts' None) (sym (behind_them (happened told line event)))
       (happened_so line event kept' texts' has)
 
   pub turned_so : (line t number table : ℕ) (kept' : KeptPools MemoryPort) (texts' : List (List ℕ)) → number ≤ length kept.pools →
-      HasHappened h.setup line (events_of told.events) (Turned t (number - 1) table) kept kept' [] texts' →
+      HasHappened h.setup line (pool_events told.events) (Turned t (number - 1) table) kept kept' [] texts' →
       IsOutcome (behind_pools told.setup told.pools (turned told line t number table)) (StandsFor (record { setup = p.setup; pools = Some kept'; has_begun = true })) texts' None
   turned_so line t number table kept' texts' le has =
       subst (λ o. IsOutcome o (StandsFor (record { setup = p.setup; pools = Some kept'; has_begun = true })) texts' None)

@@ -32,12 +32,12 @@ use Rattle.ptu_world.proofs.Deciding.{is_answered, is_decided, taken_by}
 use Rattle.ptu_pools.specs.{declared.pool.Pool.{Pool}, Events.{PoolEvent, Came, gm_event, own}}
 use Rattle.ptu_pools.specs.Pool.{AreApart, capacity_at, is_in, is_in_at}
 use Rattle.ptu_pools.proofs.Whole.{Quiet, all_quiet, items_quiet, resizes}
-use Rattle.ptu_nodes.specs.Standing.{config_of}
+use Rattle.ptu_nodes.specs.Standing.{setup_config}
 use Rattle.ptu_pool_run.specs.declared.output.PoolLine.{PoolLine}
 use Rattle.ptu_pool_run.specs.declared.output.PoolLine.TheVariants.{Sent}
-use Rattle.ptu_pool_run.specs.{Output.{line_text}, Promises.{DecidesByOwnRoom, IsAnsweredByPool, IsHandedToPool, Sold}}
-use Rattle.ptu_pool_run.specs.Reading.{events_of, happened}
-use Rattle.ptu_pool_run.specs.Sending.{grandmaster_of, lines_by, lines_of_event, sent_line}
+use Rattle.ptu_pool_run.specs.{Output.{pool_line_text}, Promises.{DecidesByOwnRoom, IsAnsweredByPool, IsHandedToPool, Sold}}
+use Rattle.ptu_pool_run.specs.Reading.{pool_events, happened}
+use Rattle.ptu_pool_run.specs.Sending.{grandmaster_of, pool_lines_by, lines_of_event, sent_line}
 use Rattle.ptu_pool_run.proofs.{Following.{at_pools}, Happening.{here}, Limits.{IsWithin}}
 
 -- ---- the reply
@@ -93,7 +93,7 @@ module _ (r : Request) where
 
 module _ (script : List ℕ) (p : Sold script) (apart : AreApart (p.told).pools) (r : Request) (is : IsHandedToPool p r) where
   abbrev before : List PoolEvent
-  before = events_of (p.told).events
+  before = pool_events (p.told).events
 
   abbrev its_gm : Grandmaster
   its_gm = grandmaster_of p.setup (p.told).pools before p.place
@@ -113,7 +113,7 @@ module _ (script : List ℕ) (p : Sold script) (apart : AreApart (p.told).pools)
   written : (line : ℕ) (reply : Departure) → map (sent_line line (p.place + 1)) (gm.datagram_deed r.gm r.handed.at r.handed.from r.handed.octets).sends ≡ sent_line line (p.place + 1) reply ∷ [] →
       lines_of_event p.setup (p.told).pools before line (Came r.handed.at r.handed.from r.handed.octets) ≡ sent_line line (p.place + 1) reply ∷ []
   written line reply sends =
-      ap (lines_by p.setup (p.told).pools before line (Came r.handed.at r.handed.from r.handed.octets))
+      ap (pool_lines_by p.setup (p.told).pools before line (Came r.handed.at r.handed.from r.handed.octets))
       (here (p.told).pools r.handed.from p.place (position (is_in r.handed.from) (p.told).pools) apart inside refl)
       ∙ ap (λ (g : Grandmaster). map (sent_line line (p.place + 1)) (gm.datagram_deed g r.handed.at r.handed.from r.handed.octets).sends) (sym gm_is)
       ∙ sends
@@ -128,8 +128,8 @@ module _ (script : List ℕ) (p : Sold script) (apart : AreApart (p.told).pools)
         before = one.before;
         behind = one.behind;
         step = at_pools (p.told).setup (p.told).pools (happened p.told line event) p.setup p.place p.pool p.is_set_up p.is_sold
-            ∙ ap (λ ls. Goes (record (p.told) { events = (p.told).events ++ (line, event) ∷ [] }) (map line_text ls)) (written line (reply (r.gm).config) (one.sends line (p.place + 1)))
-            ∙ ap (λ (g : Grandmaster). Goes (record (p.told) { events = (p.told).events ++ (line, event) ∷ [] }) (line_text (sent_line line (p.place + 1) (reply g.config)) ∷ [])) gm_is;
+            ∙ ap (λ ls. Goes (record (p.told) { events = (p.told).events ++ (line, event) ∷ [] }) (map pool_line_text ls)) (written line (reply (r.gm).config) (one.sends line (p.place + 1)))
+            ∙ ap (λ (g : Grandmaster). Goes (record (p.told) { events = (p.told).events ++ (line, event) ∷ [] }) (pool_line_text (sent_line line (p.place + 1) (reply g.config)) ∷ [])) gm_is;
         place = one.place;
         all = one.all;
       }
@@ -137,7 +137,7 @@ module _ (script : List ℕ) (p : Sold script) (apart : AreApart (p.told).pools)
   -- ---- the decision
 
   abbrev its_events : List (ℕ × Event)
-  its_events = flat_map (driven.events_of (config_of p.setup)) (map gm_event (own (p.told).pools p.place before))
+  its_events = flat_map (driven.events_of (setup_config p.setup)) (map gm_event (own (p.told).pools p.place before))
 
   is_run : IsWithin p.told → IsRun (p.setup).ip r.gm
   is_run within =
@@ -160,11 +160,11 @@ module _ (script : List ℕ) (p : Sold script) (apart : AreApart (p.told).pools)
   unchanged : (g : Grandmaster) → g ≡ its_gm → capacity_in_force g.capacity (history_after (gm.opening g) g.past (events_of_items r.handed.at (client r) r.before)) ≡ g.capacity
   unfolding core_history capacity_in_force
   unchanged g same =
-      let opened : Config = opened_with (capacity_at (p.told).pools p.place) (config_of p.setup) in
+      let opened : Config = opened_with (capacity_at (p.told).pools p.place) (setup_config p.setup) in
       let more = events_of_items r.handed.at (client r) r.before in
       let quiet : Quiet (its_events ++ more) =
       list_any-append resizes its_events more ∙ or_from (list_any resizes its_events) (list_any resizes more)
-      (all_quiet (config_of p.setup) (own (p.told).pools p.place before)) (items_quiet r.handed.at (client r) r.before) in
+      (all_quiet (setup_config p.setup) (own (p.told).pools p.place before)) (items_quiet r.handed.at (client r) r.before) in
       subst (λ (g : Grandmaster). capacity_in_force g.capacity (history_after (gm.opening g) g.past more) ≡ g.capacity) (sym same)
       (ap (capacity_in_force opened.capacity) (sym (history_after-append opened [] its_events more))
       ∙ capacity_in_force-quiet opened.capacity [] (core_history opened (its_events ++ more)) (history-unchanged opened (its_events ++ more) quiet))

@@ -17,14 +17,14 @@ use Rattle.ptu_pools.proofs.Standing.{get-set_other, get-set_same}
 use Rattle.ptu_script.specs.declared.command.GrandmasterSetup.{GrandmasterSetup}
 use Rattle.ptu_world.specs.{Deeds.{Grandmaster}, Grandmasters.{datagram_deed, turn_deed}}
 use Rattle.ptu_nodes.specs.GrandmasterPorts.{HasReplyRoom, HasRoom, in_ports}
-use Rattle.ptu_nodes.specs.{GrandmasterStatements.{IsSent}, Standing.{AreIdle, AreSure, config_of}}
+use Rattle.ptu_nodes.specs.{GrandmasterStatements.{IsSent}, Standing.{AreIdle, AreSure, setup_config}}
 use Rattle.ptu_nodes.proofs.GrandmasterReceipts.{sends_heard, told_all}
 use Rattle.ptu_nodes.proofs.{GrandmasterTurns.{sends_turned}, Items.{few_heard}}
 use Rattle.ptu_nodes.proofs.Surely.{surely_taken, surely_turned}
 use Rattle.ptu_pool_run.specs.declared.output.PoolLine.TheVariants as lines
-use Rattle.ptu_pool_run.specs.Output.{line_text}
+use Rattle.ptu_pool_run.specs.Output.{pool_line_text}
 use Rattle.ptu_pool_run.specs.Ports.{AreAllIdle, AreAllSure, AreOthersSame, GoOn, GoOnIdle, sent_texts}
-use Rattle.ptu_pool_run.specs.Sending.{grandmaster_of, lines_by, lines_of_event, place_of, sends_at, sent_line}
+use Rattle.ptu_pool_run.specs.Sending.{grandmaster_of, pool_lines_by, lines_of_event, place_of_pool, sends_at, sent_line}
 use Rattle.ptu_pool_run.specs.Standing.{AreSold, HasHappened}
 
 pub on_ok_five : {T E P Q R S U V : Type 0} (r : Result T E) → (P → Q → R → S → U → V) → OnOk r P → OnOk r Q → OnOk r R → OnOk r S → OnOk r U → OnOk r V
@@ -89,8 +89,8 @@ pub record WasTold (line place : ℕ) (old new : KeptPools MemoryPort) (texts te
 
 module _ (setup : GrandmasterSetup) (line : ℕ) (events : List PoolEvent) (kept0 kept1 : KeptPools MemoryPort) (sold : AreSold setup kept0 events)
     (first : GoOnIdle kept0 kept1) where
-  stood : StandFor (config_of setup) kept1 events
-  stood = first.go_on.stand (config_of setup) events sold.stand
+  stood : StandFor (setup_config setup) kept1 events
+  stood = first.go_on.stand (setup_config setup) events sold.stand
 
   idle : AreAllIdle kept1
   idle = first.idle sold.idle
@@ -102,7 +102,7 @@ module _ (setup : GrandmasterSetup) (line : ℕ) (events : List PoolEvent) (kept
   apart = subst AreApart (sym first.go_on.pools) sold.share.apart
 
   -- pools that stand for one event more
-  sold_after : (event : PoolEvent) (kept : KeptPools MemoryPort) → kept.pools ≡ kept0.pools → StandFor (config_of setup) kept (events ++ event ∷ []) → AreAllIdle kept → AreAllSure kept →
+  sold_after : (event : PoolEvent) (kept : KeptPools MemoryPort) → kept.pools ≡ kept0.pools → StandFor (setup_config setup) kept (events ++ event ∷ []) → AreAllIdle kept → AreAllSure kept →
       AreSold setup kept (events ++ event ∷ [])
   sold_after event kept same stand none all_sure = record {
     some = subst (λ (l : List Pool). 1 ≤ length l) (sym same) sold.some;
@@ -113,21 +113,21 @@ module _ (setup : GrandmasterSetup) (line : ℕ) (events : List PoolEvent) (kept
   }
 
   pub stranger_came : (t from : ℕ) (octets : List ℕ) (kept2 : KeptPools MemoryPort) (texts texts' : List (List ℕ)) →
-      ((i : ℕ) → is_in_at kept1.pools i from ≡ false) → kept2 ≡ kept1 → StandFor (config_of setup) kept2 (events ++ Came t from octets ∷ []) →
-      texts' ≡ texts ++ line_text (lines.Stranger line) ∷ [] →
+      ((i : ℕ) → is_in_at kept1.pools i from ≡ false) → kept2 ≡ kept1 → StandFor (setup_config setup) kept2 (events ++ Came t from octets ∷ []) →
+      texts' ≡ texts ++ pool_line_text (lines.Stranger line) ∷ [] →
       HasHappened setup line events (Came t from octets) kept0 kept2 texts texts'
   stranger_came t from octets kept2 texts texts' none same stand says =
       let pools : kept2.pools ≡ kept0.pools = ap (λ (k : KeptPools MemoryPort). k.pools) same ∙ first.go_on.pools in record {
         pools = pools;
         sold = sold_after (Came t from octets) kept2 pools stand (subst AreAllIdle (sym same) idle) (subst AreAllSure (sym same) sure);
-        says = says ∙ ap (λ o. texts ++ map line_text (lines_by setup kept0.pools events line (Came t from octets) o))
+        says = says ∙ ap (λ o. texts ++ map pool_line_text (pool_lines_by setup kept0.pools events line (Came t from octets) o))
             (sym (subst (λ (l : List Pool). position (is_in from) l ≡ None) first.go_on.pools (nowhere kept1.pools from (position (is_in from) kept1.pools) none refl)));
       }
 
   module _ (place : ℕ) (event : PoolEvent) (Change : KeptGm MemoryPort → KeptGm MemoryPort → Type 0) (kept2 kept3 : KeptPools MemoryPort) (texts texts' : List (List ℕ))
-      (one : ChangesOne place Change kept1 kept2) (at : place_of kept1.pools event ≡ Some place)
+      (one : ChangesOne place Change kept1 kept2) (at : place_of_pool kept1.pools event ≡ Some place)
       (sends : in_ports one.after ≡ sends_at (grandmaster_of setup kept1.pools events place) event)
-      (stand : StandFor (config_of setup) kept2 (events ++ event ∷ []))
+      (stand : StandFor (setup_config setup) kept2 (events ++ event ∷ []))
       (told : WasTold line place kept2 kept3 texts texts') (one_sure : AreSure one.after) where
     pools_are : kept3.pools ≡ kept0.pools
     pools_are = told.last.pools ∙ (ap (λ (k : KeptPools MemoryPort). k.pools) one.now ∙ first.go_on.pools)
@@ -159,18 +159,18 @@ module _ (setup : GrandmasterSetup) (line : ℕ) (events : List PoolEvent) (kept
             sure i gm (sym (get-set_other kept1.gms place i one.after other) ∙ (sym (ap (λ (l : List (KeptGm MemoryPort)). slice_get l i) gms_are) ∙ now))
 
     -- the same in terms of the pools as they were
-    written : texts' ≡ texts ++ map line_text (lines_of_event setup kept1.pools events line event)
+    written : texts' ≡ texts ++ map pool_line_text (lines_of_event setup kept1.pools events line event)
     written =
         told.says one.after after_is
         ∙ ap (λ ds. texts ++ sent_texts line (place + 1) ds) sends
-        ∙ ap (λ l. texts ++ l) (sym (map-map line_text (sent_line line (place + 1)) (sends_at (grandmaster_of setup kept1.pools events place) event)))
-        ∙ ap (λ o. texts ++ map line_text (lines_by setup kept1.pools events line event o)) (sym at)
+        ∙ ap (λ l. texts ++ l) (sym (map-map pool_line_text (sent_line line (place + 1)) (sends_at (grandmaster_of setup kept1.pools events place) event)))
+        ∙ ap (λ o. texts ++ map pool_line_text (pool_lines_by setup kept1.pools events line event o)) (sym at)
 
     pub one_happened : HasHappened setup line events event kept0 kept3 texts texts'
     one_happened = record {
       pools = pools_are;
-      sold = sold_after event kept3 pools_are (told.last.stand (config_of setup) (events ++ event ∷ []) stand) all_idle (told.kept_sure all_sure);
-      says = written ∙ ap (λ (l : List Pool). texts ++ map line_text (lines_of_event setup l events line event)) first.go_on.pools;
+      sold = sold_after event kept3 pools_are (told.last.stand (setup_config setup) (events ++ event ∷ []) stand) all_idle (told.kept_sure all_sure);
+      says = written ∙ ap (λ (l : List Pool). texts ++ map pool_line_text (lines_of_event setup l events line event)) first.go_on.pools;
     }
 
   pub came_happened : (ports : Ports MemoryPort) (tells : (p : MemoryPort) → ports.sent p ≡ Some p.sent)
@@ -178,7 +178,7 @@ module _ (setup : GrandmasterSetup) (line : ℕ) (events : List PoolEvent) (kept
       (t from place : ℕ) (octets : List ℕ) (taken : Taken) (kept2 kept3 : KeptPools MemoryPort) (texts texts' : List (List ℕ)) →
       ((place : ℕ) (gm : KeptGm MemoryPort) → position (is_in from) kept0.pools ≡ Some place → slice_get kept1.gms place ≡ Some gm → HasReplyRoom gm) →
       is_in_at kept1.pools place from ≡ true → ChangesOne place (TookDatagram ports t from octets taken) kept1 kept2 →
-      StandFor (config_of setup) kept2 (events ++ Came t from octets ∷ []) →
+      StandFor (setup_config setup) kept2 (events ++ Came t from octets ∷ []) →
       WasTold line place kept2 kept3 texts texts' →
       HasHappened setup line events (Came t from octets) kept0 kept3 texts texts'
   came_happened ports tells to from_sure t from place octets taken kept2 kept3 texts texts' room inside one stand told =
@@ -197,7 +197,7 @@ module _ (setup : GrandmasterSetup) (line : ℕ) (events : List PoolEvent) (kept
       ((gm : KeptGm MemoryPort) → slice_get kept1.gms place ≡ Some gm →
       HasRoom (length (table_at table gm).rows) (length (table_at table gm).rows * 64) (table_at table gm).port) →
       ChangesOne place (TookTurn ports t table turned) kept1 kept2 →
-      StandFor (config_of setup) kept2 (events ++ Turned t place table ∷ []) →
+      StandFor (setup_config setup) kept2 (events ++ Turned t place table ∷ []) →
       WasTold line place kept2 kept3 texts texts' →
       HasHappened setup line events (Turned t place table) kept0 kept3 texts texts'
   turn_happened ports tells to from_sure t place table turned kept2 kept3 texts texts' room one stand told =

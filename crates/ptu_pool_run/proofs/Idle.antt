@@ -7,7 +7,7 @@ use Rattle.ptu_grandmaster.specs.Gm.{KeptGm}
 use Rattle.ptu_script.specs.declared.command.GrandmasterSetup.{GrandmasterSetup}
 use Rattle.ptu_pools.specs.{declared.pool.Pool.{Pool}, Refusal.{Share}}
 use Rattle.ptu_pools.specs.Standing.{KeptPools, StandFor, ports_of_all}
-use Rattle.ptu_nodes.specs.Standing.{AreIdle, AreSure, IsIdle, IsUnfailing, config_of}
+use Rattle.ptu_nodes.specs.Standing.{AreIdle, AreSure, IsIdle, IsUnfailing, setup_config}
 use Rattle.ptu_pool_run.specs.Standing.{AreSold}
 
 idle_by : (gms : List (KeptGm MemoryPort)) → AllByRecursion IsIdle (ports_of_all gms) → (i : ℕ) (gm : KeptGm MemoryPort) → slice_get gms i ≡ Some gm → AreIdle gm
@@ -22,7 +22,7 @@ sure_by (g ∷ gms) (e0, (e1, (e2, (e3, (e4, rest))))) (suc i) gm is = sure_by g
 
 pub sold_fresh : (setup : GrandmasterSetup) (before : List Pool) (pool : Pool) (kept : KeptPools MemoryPort) (ports : List MemoryPort) →
     Share setup.capacity (before ++ pool ∷ []) →
-    kept.pools ≡ before ++ pool ∷ [] → ports_of_all kept.gms ≡ ports → All (λ (port : MemoryPort). port.sent ≡ []) ports → All (λ (port : MemoryPort). port.failing_sends ≡ []) ports → StandFor (config_of setup) kept [] →
+    kept.pools ≡ before ++ pool ∷ [] → ports_of_all kept.gms ≡ ports → All (λ (port : MemoryPort). port.sent ≡ []) ports → All (λ (port : MemoryPort). port.failing_sends ≡ []) ports → StandFor (setup_config setup) kept [] →
     AreSold setup kept []
 sold_fresh setup before pool kept ports share pools_are ports_are idle sure stand = record {
   some = subst (λ (l : List Pool). 1 ≤ length l) (sym pools_are) (omega (arith, length-append before (pool ∷ [])));

@@ -1,4 +1,4 @@
--- What a script says is sound, and its output is that of the rules.
+-- What a script says is sound, and its output is that of the pool_rules.
 use Rattle.std.proofs.Common.{◌≡◌, ◌∙◌, ℕ, ◌+◌, ◌-◌, Bool, true, false, cond, leb, List, [], ◌∷◌, ◌++◌, length, map, Option, Some, None, Result, Ok, Err, refl, sym, ap, subst, append_assoc}
 use Rattle.std.proofs.lemmas.List.{append-nil, map-append}
 use Rattle.ptu_lines.specs.Script.{ScriptLine, Whole, Refused, script_lines}
@@ -11,10 +11,10 @@ use Rattle.ptu_pools.specs.{Pool.{AreApart}, Refusal.{Share}}
 use Rattle.ptu_pool_run.specs.declared.cause.{PoolCause.{PoolCause}, PoolCause.TheVariants.{Number}}
 use Rattle.ptu_pool_run.specs.declared.command.PoolCommand.{PoolCommand}
 use Rattle.ptu_pool_run.specs.declared.command.PoolCommand.TheVariants as commands
-use Rattle.ptu_pool_run.specs.{Command.{command_of}, Output.{line_text}}
-use Rattle.ptu_pool_run.specs.Poured.{last_line, lines_after, lines_by_setup, poured_texts, told_at, told_by, told_until}
-use Rattle.ptu_pool_run.specs.Reading.{At, Told, events_of, happened, opening, outcome_by, rules, sold_by, step, turned}
-use Rattle.ptu_pool_run.specs.{Selling.{refusal_of}, Sending.{lines_of_event}}
+use Rattle.ptu_pool_run.specs.{Command.{pool_command_of}, Output.{pool_line_text}}
+use Rattle.ptu_pool_run.specs.Poured.{last_line, lines_after, lines_by_setup, poured_texts, told_at, told_in, told_until}
+use Rattle.ptu_pool_run.specs.Reading.{At, Told, pool_events, happened, none_told, told_outcome, pool_rules, sold_by, told_after, turned}
+use Rattle.ptu_pool_run.specs.{Selling.{selling_refusal}, Sending.{lines_of_event}}
 use Rattle.ptu_pool_run.proofs.{Sold.{none_share, sold_share}}
 
 -- before the grandmaster is set up there is nothing; then its pools share its capacity
@@ -27,7 +27,7 @@ IsSound told = AreSound told.setup told.pools told.events
 
 -- the texts of what was said so far
 abbrev texts_so_far : Told → List (List ℕ)
-texts_so_far told = map line_text (lines_by_setup told.setup told.pools told.events)
+texts_so_far told = map pool_line_text (lines_by_setup told.setup told.pools told.events)
 
 -- what goes on is sound, and its texts are those so far and those of the outcome
 abbrev Follows : Told → Outcome Told PoolCause → Type 0
@@ -37,13 +37,13 @@ Follows told (Goes after texts) = IsSound after × (texts_so_far told ++ texts �
 -- ---- one command
 
 lines-push : (setup : GrandmasterSetup) (pools : List Pool) (before : List PoolEvent) (events : List At) (line : ℕ) (event : PoolEvent) →
-    lines_after setup pools before (events ++ (line, event) ∷ []) ≡ lines_after setup pools before events ++ lines_of_event setup pools (before ++ events_of events) line event
+    lines_after setup pools before (events ++ (line, event) ∷ []) ≡ lines_after setup pools before events ++ lines_of_event setup pools (before ++ pool_events events) line event
 lines-push setup pools before [] line event = append-nil (lines_of_event setup pools before line event) ∙ ap (λ l. lines_of_event setup pools l line event) (sym (append-nil before))
 lines-push setup pools before ((n, e) ∷ events) line event =
     ap (λ l. lines_of_event setup pools before n e ++ l)
     (lines-push setup pools (before ++ e ∷ []) events line event
-    ∙ ap (λ l. lines_after setup pools (before ++ e ∷ []) events ++ lines_of_event setup pools l line event) (append_assoc before (e ∷ []) (events_of events)))
-    ∙ sym (append_assoc (lines_of_event setup pools before n e) (lines_after setup pools (before ++ e ∷ []) events) (lines_of_event setup pools (before ++ e ∷ events_of events) line event))
+    ∙ ap (λ l. lines_after setup pools (before ++ e ∷ []) events ++ lines_of_event setup pools l line event) (append_assoc before (e ∷ []) (pool_events events)))
+    ∙ sym (append_assoc (lines_of_event setup pools before n e) (lines_after setup pools (before ++ e ∷ []) events) (lines_of_event setup pools (before ++ e ∷ pool_events events) line event))
 
 module _ (pools : List Pool) (events : List At) (line : ℕ) where
   abbrev with_setup : Option GrandmasterSetup → Told
@@ -52,7 +52,7 @@ module _ (pools : List Pool) (events : List At) (line : ℕ) where
   happened_follows : (setup : GrandmasterSetup) (event : PoolEvent) → Share setup.capacity pools →
       Follows (with_setup (Some setup)) (happened (with_setup (Some setup)) line event setup)
   happened_follows setup event share =
-      (share, sym (map-append line_text (lines_after setup pools [] events) (lines_of_event setup pools (events_of events) line event)) ∙ ap (map line_text) (sym (lines-push setup pools [] events line event)))
+      (share, sym (map-append pool_line_text (lines_after setup pools [] events) (lines_of_event setup pools (pool_events events) line event)) ∙ ap (map pool_line_text) (sym (lines-push setup pools [] events line event)))
 
   turned_follows : (setup : GrandmasterSetup) (t number table : ℕ) → Share setup.capacity pools →
       Follows (with_setup (Some setup)) (turned (with_setup (Some setup)) line t number table setup)
@@ -62,18 +62,18 @@ module _ (pools : List Pool) (events : List At) (line : ℕ) where
       by true = happened_follows setup (Turned t (number - 1) table) share
       by false = tt
 
-sold_follows : (setup : GrandmasterSetup) (pools : List Pool) (pool : Pool) (o : Option PoolCause) → Share setup.capacity pools → refusal_of setup.capacity pools pool ≡ o →
+sold_follows : (setup : GrandmasterSetup) (pools : List Pool) (pool : Pool) (o : Option PoolCause) → Share setup.capacity pools → selling_refusal setup.capacity pools pool ≡ o →
     Follows (record { setup = Some setup; pools = pools; events = [] }) (sold_by (record { setup = Some setup; pools = pools; events = [] }) pool o)
 sold_follows setup pools pool None share e = (sold_share setup.capacity pools pool share e, refl)
 sold_follows setup pools pool (Some cause) share e = tt
 
 step_follows : (setup : Option GrandmasterSetup) (pools : List Pool) (events : List At) (line : ℕ) (command : PoolCommand) → AreSound setup pools events →
-    (let told : Told = record { setup = setup; pools = pools; events = events } in Follows told (step told line command))
+    (let told : Told = record { setup = setup; pools = pools; events = events } in Follows told (told_after told line command))
 step_follows None pools events line (commands.Grandmaster setup) sound =
-    (subst (λ l. Share setup.capacity l) (sym sound.0) (none_share setup.capacity), ap (λ l. map line_text (lines_after setup pools [] l)) (sym sound.1))
+    (subst (λ l. Share setup.capacity l) (sym sound.0) (none_share setup.capacity), ap (λ l. map pool_line_text (lines_after setup pools [] l)) (sym sound.1))
 step_follows (Some before) pools events line (commands.Grandmaster setup) sound = tt
 step_follows None pools events line (commands.Sell pool) sound = tt
-step_follows (Some setup) pools [] line (commands.Sell pool) sound = sold_follows setup pools pool (refusal_of setup.capacity pools pool) sound refl
+step_follows (Some setup) pools [] line (commands.Sell pool) sound = sold_follows setup pools pool (selling_refusal setup.capacity pools pool) sound refl
 step_follows (Some setup) pools (event ∷ events) line (commands.Sell pool) sound = tt
 step_follows None pools events line (commands.Receive t from octets) sound = tt
 step_follows (Some setup) [] events line (commands.Receive t from octets) sound = tt
@@ -82,7 +82,7 @@ step_follows None pools events line (commands.Turn t number table) sound = tt
 step_follows (Some setup) [] events line (commands.Turn t number table) sound = tt
 step_follows (Some setup) (pool ∷ pools) events line (commands.Turn t number table) sound = turned_follows (pool ∷ pools) events line setup t number table sound
 
-line_follows : (told : Told) (line : ℕ) (r : Result (Option PoolCommand) Cause) → IsSound told → Follows told (outcome_by told line r)
+line_follows : (told : Told) (line : ℕ) (r : Result (Option PoolCommand) Cause) → IsSound told → Follows told (told_outcome told line r)
 line_follows told line (Ok None) sound = (sound, append-nil (texts_so_far told))
 line_follows told line (Ok (Some command)) sound = step_follows told.setup told.pools told.events line command sound
 line_follows told line (Err cause) sound = tt
@@ -90,11 +90,11 @@ line_follows told line (Err cause) sound = tt
 -- ---- all lines
 
 pub sound_until : (told : Told) (before : ℕ) (lines : List ScriptLine) → IsSound told → IsSound (told_until told before lines)
-unfolding rules
+unfolding pool_rules
 sound_until told before [] sound = sound
 sound_until told before (Refused cause ∷ rest) sound = sound
 sound_until told before (Whole text ∷ rest) sound =
-    by (outcome_by told (before + 1) (command_of text)) (line_follows told (before + 1) (command_of text) sound) (λ after s. sound_until after (before + 1) rest s)
+    by (told_outcome told (before + 1) (pool_command_of text)) (line_follows told (before + 1) (pool_command_of text) sound) (λ after s. sound_until after (before + 1) rest s)
   where
     by : (o : Outcome Told PoolCause) → Follows told o → ((after : Told) → IsSound after → IsSound (told_until after (before + 1) rest)) →
         IsSound (told_at told o (λ after. told_until after (before + 1) rest))
@@ -103,37 +103,37 @@ sound_until told before (Whole text ∷ rest) sound =
 
 -- the texts so far, followed by those to come, are those of all lines of output
 abbrev whole_texts : Told → Ending PoolCause → List (List ℕ)
-whole_texts told ending = map line_text (lines_by_setup told.setup told.pools told.events ++ last_line ending ∷ [])
+whole_texts told ending = map pool_line_text (lines_by_setup told.setup told.pools told.events ++ last_line ending ∷ [])
 
-last_texts : (told : Told) (ending : Ending PoolCause) → texts_so_far told ++ line_text (last_line ending) ∷ [] ≡ whole_texts told ending
-last_texts told ending = sym (map-append line_text (lines_by_setup told.setup told.pools told.events) (last_line ending ∷ []))
+last_texts : (told : Told) (ending : Ending PoolCause) → texts_so_far told ++ pool_line_text (last_line ending) ∷ [] ≡ whole_texts told ending
+last_texts told ending = sym (map-append pool_line_text (lines_by_setup told.setup told.pools told.events) (last_line ending ∷ []))
 
 texts_are : (told : Told) (before : ℕ) (lines : List ScriptLine) → IsSound told →
-    texts_so_far told ++ texts_until rules (closing rules) told before lines ≡ whole_texts (told_until told before lines) (ending_after rules told before lines)
-unfolding rules
-texts_are told before [] sound = last_texts told (ending_after rules told before [])
-texts_are told before (Refused cause ∷ rest) sound = last_texts told (ending_after rules told before (Refused cause ∷ rest))
+    texts_so_far told ++ texts_until pool_rules (closing pool_rules) told before lines ≡ whole_texts (told_until told before lines) (ending_after pool_rules told before lines)
+unfolding pool_rules
+texts_are told before [] sound = last_texts told (ending_after pool_rules told before [])
+texts_are told before (Refused cause ∷ rest) sound = last_texts told (ending_after pool_rules told before (Refused cause ∷ rest))
 texts_are told before (Whole text ∷ rest) sound =
-    by (outcome_by told (before + 1) (command_of text)) (line_follows told (before + 1) (command_of text) sound) (λ after s. texts_are after (before + 1) rest s)
+    by (told_outcome told (before + 1) (pool_command_of text)) (line_follows told (before + 1) (pool_command_of text) sound) (λ after s. texts_are after (before + 1) rest s)
   where
     by : (o : Outcome Told PoolCause) → Follows told o →
-        ((after : Told) → IsSound after → texts_so_far after ++ texts_until rules (closing rules) after (before + 1) rest
-        ≡ whole_texts (told_until after (before + 1) rest) (ending_after rules after (before + 1) rest)) →
-        texts_so_far told ++ texts_at rules (before + 1) o (λ after. texts_until rules (closing rules) after (before + 1) rest)
-        ≡ whole_texts (told_at told o (λ after. told_until after (before + 1) rest)) (ending_at (before + 1) o (λ after. ending_after rules after (before + 1) rest))
-    by (Refuses cause) follows later = last_texts told (ending_at (before + 1) (Refuses cause) (λ after. ending_after rules after (before + 1) rest))
+        ((after : Told) → IsSound after → texts_so_far after ++ texts_until pool_rules (closing pool_rules) after (before + 1) rest
+        ≡ whole_texts (told_until after (before + 1) rest) (ending_after pool_rules after (before + 1) rest)) →
+        texts_so_far told ++ texts_at pool_rules (before + 1) o (λ after. texts_until pool_rules (closing pool_rules) after (before + 1) rest)
+        ≡ whole_texts (told_at told o (λ after. told_until after (before + 1) rest)) (ending_at (before + 1) o (λ after. ending_after pool_rules after (before + 1) rest))
+    by (Refuses cause) follows later = last_texts told (ending_at (before + 1) (Refuses cause) (λ after. ending_after pool_rules after (before + 1) rest))
     by (Goes after texts) follows later =
-        sym (append_assoc (texts_so_far told) texts _) ∙ ap (λ l. l ++ texts_until rules (closing rules) after (before + 1) rest) follows.1 ∙ later after follows.0
+        sym (append_assoc (texts_so_far told) texts _) ∙ ap (λ l. l ++ texts_until pool_rules (closing pool_rules) after (before + 1) rest) follows.1 ∙ later after follows.0
 
 -- ---- a script
 
-pub sound_by : (script : List ℕ) → IsSound (told_by script)
-unfolding told_by
-sound_by script = sound_until opening 0 (script_lines script) (refl, refl)
+pub sound_by : (script : List ℕ) → IsSound (told_in script)
+unfolding told_in
+sound_by script = sound_until none_told 0 (script_lines script) (refl, refl)
 
-pub texts_of_script : (script : List ℕ) → texts_of rules opening (script_lines script) ≡ poured_texts script
-unfolding told_by
-texts_of_script script = texts_are opening 0 (script_lines script) (refl, refl)
+pub texts_of_script : (script : List ℕ) → texts_of pool_rules none_told (script_lines script) ≡ poured_texts script
+unfolding told_in
+texts_of_script script = texts_are none_told 0 (script_lines script) (refl, refl)
 
 pub apart_of : (setup : Option GrandmasterSetup) (pools : List Pool) (events : List At) → AreSound setup pools events → AreApart pools
 apart_of None pools events sound = subst AreApart (sym sound.0) (none_share 0).apart

@@ -15,9 +15,9 @@ use Rattle.ptu_pool_run.specs.declared.cause.{PoolCause.{PoolCause}, PoolCause.T
 use Rattle.ptu_pool_run.specs.declared.{command.PoolCommand.{PoolCommand}, verb.PoolVerb.{PoolVerb}}
 use Rattle.ptu_pool_run.specs.declared.command.PoolCommand.TheVariants as commands
 use Rattle.ptu_pool_run.specs.declared.verb.PoolVerb.TheVariants as verbs
-use Rattle.ptu_pool_run.specs.{Command.{command_by, command_of, fields_in}, Verb.{count_of}}
-use Rattle.ptu_pool_run.specs.{Poured.{told_at, told_until}, Selling.{refusal_of}}
-use Rattle.ptu_pool_run.specs.Reading.{At, Told, happened, outcome_by, rules, sold_by, step, turned}
+use Rattle.ptu_pool_run.specs.{Command.{pool_command_by, pool_command_of, pool_fields_in}, Verb.{count_of}}
+use Rattle.ptu_pool_run.specs.{Poured.{told_at, told_until}, Selling.{selling_refusal}}
+use Rattle.ptu_pool_run.specs.Reading.{At, Told, happened, told_outcome, pool_rules, sold_by, told_after, turned}
 
 -- ---- a line
 
@@ -28,8 +28,8 @@ IsLawful (commands.Sell pool) = IsCapacity pool.capacity
 IsLawful (commands.Receive t from octets) = Unit {0}
 IsLawful (commands.Turn t number table) = Unit {0}
 
-fields_lawful : (verb : PoolVerb) (line : List ℕ) → IfOk (fields_in verb line) IsLawful
-unfolding fields_in
+fields_lawful : (verb : PoolVerb) (line : List ℕ) → IfOk (pool_fields_in verb line) IsLawful
+unfolding pool_fields_in
 fields_lawful verbs.Gm line = by (grandmaster_in line) (grandmaster_within line)
   where
     by : (r : Result GrandmasterSetup Cause) → IfOk r IsGrandmasterWithin → IfOk (r >>= λ setup. Ok (commands.Grandmaster setup)) IsLawful
@@ -40,12 +40,12 @@ fields_lawful verbs.Pool line = ok_bound IsLawful (field 2 ip_of line) _ (λ net
 fields_lawful verbs.Rx line = ok_bound IsLawful (field 2 moment_of line) _ (λ t _. ok_bound IsLawful (field 3 ip_of line) _ (λ from _. ok_bound IsLawful (field 4 octets_of line) _ (λ octets _. tt)))
 fields_lawful verbs.Turn line = ok_bound IsLawful (field 2 moment_of line) _ (λ t _. ok_bound IsLawful (field 3 (from_to 1 16) line) _ (λ number _. ok_bound IsLawful (field 4 (from_to 0 3) line) _ (λ table _. tt)))
 
-by_verb : (verb : Option PoolVerb) (line : List ℕ) → IfOk (command_by verb line) IsLawful
+by_verb : (verb : Option PoolVerb) (line : List ℕ) → IfOk (pool_command_by verb line) IsLawful
 by_verb None line = tt
-by_verb (Some verb) line = ok_either IsLawful (eqb (length (words_of line)) (count_of verb)) (fields_in verb line) (Err Count) (λ _. fields_lawful verb line) (λ _. tt)
+by_verb (Some verb) line = ok_either IsLawful (eqb (length (words_of line)) (count_of verb)) (pool_fields_in verb line) (Err Count) (λ _. fields_lawful verb line) (λ _. tt)
 
-command_lawful : (line : List ℕ) → IfOk (command_of line) (λ o. IfSome o IsLawful)
-unfolding command_of
+command_lawful : (line : List ℕ) → IfOk (pool_command_of line) (λ o. IfSome o IsLawful)
+unfolding pool_command_of
 command_lawful line = ok_either (λ o. IfSome o IsLawful) (is_comment line) (Ok None) _ (λ _. tt) (λ _. by _ (by_verb _ line))
   where
     by : (r : Result PoolCommand Cause) → IfOk r IsLawful → IfOk (r >>= λ command. Ok (Some command)) (λ o. IfSome o IsLawful)
@@ -82,11 +82,11 @@ module _ (setup : GrandmasterSetup) (pools : List Pool) (events : List At) (with
   sold_keeps pool (Some cause) one = tt
 
 step_keeps : (setup : Option GrandmasterSetup) (pools : List Pool) (events : List At) (line : ℕ) (command : PoolCommand) → IsLawful command → AreWithin setup pools →
-    (let told : Told = record { setup = setup; pools = pools; events = events } in Keeps (step told line command))
+    (let told : Told = record { setup = setup; pools = pools; events = events } in Keeps (told_after told line command))
 step_keeps None pools events line (commands.Grandmaster setup) lawful within = (lawful, within.1)
 step_keeps (Some before) pools events line (commands.Grandmaster setup) lawful within = tt
 step_keeps None pools events line (commands.Sell pool) lawful within = tt
-step_keeps (Some setup) pools [] line (commands.Sell pool) lawful within = sold_keeps setup pools [] within pool (refusal_of setup.capacity pools pool) lawful
+step_keeps (Some setup) pools [] line (commands.Sell pool) lawful within = sold_keeps setup pools [] within pool (selling_refusal setup.capacity pools pool) lawful
 step_keeps (Some setup) pools (event ∷ events) line (commands.Sell pool) lawful within = tt
 step_keeps None pools events line (commands.Receive t from octets) lawful within = tt
 step_keeps (Some setup) [] events line (commands.Receive t from octets) lawful within = tt
@@ -95,17 +95,17 @@ step_keeps None pools events line (commands.Turn t number table) lawful within =
 step_keeps (Some setup) [] events line (commands.Turn t number table) lawful within = tt
 step_keeps (Some setup) (pool ∷ pools) events line (commands.Turn t number table) lawful within = turned_keeps setup (pool ∷ pools) events within line t number table
 
-line_keeps : (told : Told) (line : ℕ) (r : Result (Option PoolCommand) Cause) → IfOk r (λ o. IfSome o IsLawful) → IsWithin told → Keeps (outcome_by told line r)
+line_keeps : (told : Told) (line : ℕ) (r : Result (Option PoolCommand) Cause) → IfOk r (λ o. IfSome o IsLawful) → IsWithin told → Keeps (told_outcome told line r)
 line_keeps told line (Ok None) lawful within = within
 line_keeps told line (Ok (Some command)) lawful within = step_keeps told.setup told.pools told.events line command lawful within
 line_keeps told line (Err cause) lawful within = tt
 
 pub within_until : (told : Told) (before : ℕ) (lines : List ScriptLine) → IsWithin told → IsWithin (told_until told before lines)
-unfolding rules
+unfolding pool_rules
 within_until told before [] within = within
 within_until told before (Refused cause ∷ rest) within = within
 within_until told before (Whole text ∷ rest) within =
-    by (outcome_by told (before + 1) (command_of text)) (line_keeps told (before + 1) (command_of text) (command_lawful text) within) (λ after w. within_until after (before + 1) rest w)
+    by (told_outcome told (before + 1) (pool_command_of text)) (line_keeps told (before + 1) (pool_command_of text) (command_lawful text) within) (λ after w. within_until after (before + 1) rest w)
   where
     by : (o : Outcome Told PoolCause) → Keeps o → ((after : Told) → IsWithin after → IsWithin (told_until after (before + 1) rest)) →
         IsWithin (told_at told o (λ after. told_until after (before + 1) rest))

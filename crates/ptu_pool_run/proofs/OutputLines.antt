@@ -11,11 +11,11 @@ use Rattle.ptu_pools.specs.declared.pool.Pool.{Pool}
 use Rattle.ptu_pools.specs.Events.{PoolEvent, Came, Turned, gm_event, is_own, own}
 use Rattle.ptu_pools.specs.Pool.{AreApart, capacity_at, is_in, is_in_at}
 use Rattle.ptu_pools.proofs.Places.{found_mine, none_in}
-use Rattle.ptu_nodes.specs.Standing.{config_of}
+use Rattle.ptu_nodes.specs.Standing.{setup_config}
 use Rattle.ptu_pool_run.specs.declared.{cause.PoolCause.{PoolCause}, output.PoolLine.{PoolLine}}
 use Rattle.ptu_pool_run.specs.Reading.{At}
 use Rattle.ptu_pool_run.specs.Poured.{is_line_of, last_line, lines_after, lines_by_setup, own_at, own_lines, own_lines_by}
-use Rattle.ptu_pool_run.specs.Sending.{grandmaster_of, lines_by, lines_of_event, sends_at, sent_line}
+use Rattle.ptu_pool_run.specs.Sending.{grandmaster_of, pool_lines_by, lines_of_event, sends_at, sent_line}
 
 -- ---- the lines of one event
 
@@ -56,7 +56,7 @@ module _ (setup : GrandmasterSetup) (pools : List Pool) (i : ℕ) where
           none_mine i place line (sends_at (grandmaster_of setup pools before place) event) (numbered_other i place other) ∙ ap (λ b. sent_if b before line event) (sym other)
 
   came_by : (before : List PoolEvent) (line t from : ℕ) (octets : List ℕ) (o : Option ℕ) → AreApart pools → position (is_in from) pools ≡ o →
-      filter (is_line_of i) (lines_by setup pools before line (Came t from octets) o) ≡ sent_if (is_in_at pools i from) before line (Came t from octets)
+      filter (is_line_of i) (pool_lines_by setup pools before line (Came t from octets) o) ≡ sent_if (is_in_at pools i from) before line (Came t from octets)
   came_by before line t from octets None apart e = ap (λ b. sent_if b before line (Came t from octets)) (sym (none_in pools from e i))
   came_by before line t from octets (Some place) apart e =
       at_place before line (Came t from octets) place ∙ ap (λ b. sent_if b before line (Came t from octets)) (sym (found_mine pools from place apart e i))
@@ -73,9 +73,9 @@ module _ (setup : GrandmasterSetup) (pools : List Pool) (i : ℕ) where
   same_sent before mine line event same =
       ap (λ (past : List PoolEvent). map (sent_line line (i + 1)) (sends_at (record {
         ip = setup.ip;
-        config = config_of setup;
+        config = setup_config setup;
         capacity = capacity_at pools i;
-        past = driven_history (config_of setup) (capacity_at pools i) (map gm_event past);
+        past = driven_history (setup_config setup) (capacity_at pools i) (map gm_event past);
       }) event)) same
 
   one_more : (before mine : List PoolEvent) (event : PoolEvent) → own pools i before ≡ own pools i mine → own pools i (before ++ event ∷ []) ≡ own pools i (mine ++ event ∷ [])

@@ -31,11 +31,11 @@ use Rattle.ptu_world.specs.{Deeds.{Grandmaster}, Grandmasters.{heard_deed, turn_
 use Rattle.ptu_pools.specs.{declared.pool.Pool.{Pool}, Events.{PoolEvent, Came, Turned, gm_event, is_own, pool_history}}
 use Rattle.ptu_pools.specs.Pool.{AreApart, capacity_at, is_in, is_in_at}
 use Rattle.ptu_pools.proofs.{Places.{found_in, one_place}, Standing.{history-mine, history-other}}
-use Rattle.ptu_nodes.specs.Standing.{config_of}
+use Rattle.ptu_nodes.specs.Standing.{setup_config}
 use Rattle.ptu_pool_run.specs.declared.cause.PoolCause.{PoolCause}
 use Rattle.ptu_pool_run.specs.{Promises.{is_line_to}, Reading.{At}}
 use Rattle.ptu_pool_run.specs.Poured.{is_line_of, last_line, lines_after, lines_by_setup}
-use Rattle.ptu_pool_run.specs.Sending.{grandmaster_of, lines_by, lines_of_event, sends_at, sent_line}
+use Rattle.ptu_pool_run.specs.Sending.{grandmaster_of, pool_lines_by, lines_of_event, sends_at, sent_line}
 
 -- ---- what is decided on clients at some addresses alone
 
@@ -189,18 +189,18 @@ module _ (setup : GrandmasterSetup) (pools : List Pool) (apart : AreApart pools)
       ap₂ (λ b l. cond b (sent_line line (place + 1) d ∷ l) l) (sym (number_is place d.ip all.0)) (sends_to place line ds all.1)
 
   came_to : (before : List PoolEvent) (line t from : ℕ) (octets : List ℕ) (o : Option ℕ) → position (is_in from) pools ≡ o →
-      filter (is_line_of i) (lines_by setup pools before line (Came t from octets) o) ≡ filter (is_line_to pools i) (lines_by setup pools before line (Came t from octets) o)
+      filter (is_line_of i) (pool_lines_by setup pools before line (Came t from octets) o) ≡ filter (is_line_to pools i) (pool_lines_by setup pools before line (Came t from octets) o)
   came_to before line t from octets None e = refl
   came_to before line t from octets (Some place) e =
       sends_to place line (sends_at (grandmaster_of setup pools before place) (Came t from octets))
-      (heard_sends (is_in_at pools place) (grandmaster_of setup pools before place) t from (heard_in (config_of setup) octets) (found_in pools from place e))
+      (heard_sends (is_in_at pools place) (grandmaster_of setup pools before place) t from (heard_in (setup_config setup) octets) (found_in pools from place e))
 
   event_to : (before : List PoolEvent) (line : ℕ) (event : PoolEvent) →
       filter (is_line_of i) (lines_of_event setup pools before line event) ≡ filter (is_line_to pools i) (lines_of_event setup pools before line event)
   event_to before line (Came t from octets) = came_to before line t from octets (position (is_in from) pools) refl
   event_to before line (Turned t pool table) =
       sends_to pool line (sends_at (grandmaster_of setup pools before pool) (Turned t pool table))
-      (turn_sends (is_in_at pools pool) (grandmaster_of setup pools before pool) t table (pool_home (config_of setup) pools pool before))
+      (turn_sends (is_in_at pools pool) (grandmaster_of setup pools before pool) t table (pool_home (setup_config setup) pools pool before))
 
   events_to : (before : List PoolEvent) (es : List At) → filter (is_line_of i) (lines_after setup pools before es) ≡ filter (is_line_to pools i) (lines_after setup pools before es)
   events_to before [] = refl

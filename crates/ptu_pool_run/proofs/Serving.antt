@@ -4,18 +4,18 @@ use Rattle.ptu_history.specs.History.{Record}
 use Rattle.ptu_laws.specs.Sound.{IsSound}
 use Rattle.ptu_laws.proofs.{Served.{periods-sound, rate-sound}, Stands.{sound-core}, Turned.{met-in-each}}
 use Rattle.ptu_script.specs.declared.command.GrandmasterSetup.{GrandmasterSetup}
-use Rattle.ptu_pool_run.specs.Poured.{told_by}
+use Rattle.ptu_pool_run.specs.Poured.{told_in}
 use Rattle.ptu_pool_run.specs.Promises.{SendsInTimeToPools, ServesClientsOfPools, core_events, history_of, pool_opening}
 
 module _ (script : List ℕ) (setup : GrandmasterSetup) (i : ℕ) where
   abbrev all : List Record
-  all = history_of setup (told_by script) i
+  all = history_of setup (told_in script) i
 
   abbrev capacity : ℕ
-  capacity = (pool_opening setup (told_by script) i).capacity
+  capacity = (pool_opening setup (told_in script) i).capacity
 
   sound : IsSound capacity all
-  sound = sound-core (pool_opening setup (told_by script) i) (core_events setup (told_by script) i)
+  sound = sound-core (pool_opening setup (told_in script) i) (core_events setup (told_in script) i)
 
 pub serves_clients : (script : List ℕ) → ServesClientsOfPools script
 serves_clients script = record {
@@ -27,5 +27,5 @@ pub sends_in_time : (script : List ℕ) → SendsInTimeToPools script
 sends_in_time script = record {
   by_events = λ setup i is. refl;
   in_each = λ setup i c k n l u between from to is kind last begun within each.
-      met-in-each (pool_opening setup (told_by script) i) (core_events setup (told_by script) i) c k n l u between from to kind last begun within each;
+      met-in-each (pool_opening setup (told_in script) i) (core_events setup (told_in script) i) c k n l u between from to kind last begun within each;
 }

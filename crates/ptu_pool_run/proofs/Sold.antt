@@ -14,7 +14,7 @@ use Rattle.ptu_pools.proofs.Apart.{NoneBelow, all_apart, first_found, none_found
 use Rattle.ptu_pools.proofs.Refused.{one_refused}
 use Rattle.ptu_pool_run.specs.declared.cause.PoolCause.{PoolCause}
 use Rattle.ptu_pool_run.specs.declared.cause.PoolCause.TheVariants as causes
-use Rattle.ptu_pool_run.specs.Selling.{refusal_of}
+use Rattle.ptu_pool_run.specs.Selling.{selling_refusal}
 
 -- the cause that a fault of all pools is, where those before had none
 abbrev pub cause_of_fault : PoolsFault → Option PoolCause
@@ -75,7 +75,7 @@ module _ (capacity : ℕ) (before : List Pool) (pool : Pool) (share : Share capa
   refusal met over = cond met (Some causes.Overlap) (cond over (Some causes.Over) None)
 
   refusal_is : (met over : Bool) → is_some (position (λ other. meets other pool) before) ≡ met → ltb capacity (capacities before + pool.capacity) ≡ over →
-      refusal_of capacity before pool ≡ refusal met over
+      selling_refusal capacity before pool ≡ refusal met over
   refusal_is met over is_met is_over =
       ap₂ (λ is full. cond (not is) (Some causes.Net) (cond full (Some causes.Full) (refusal (is_some (position (λ other. meets other pool) before)) (ltb capacity (capacities before + pool.capacity)))))
       network (lt-leb 16 (length before) few)
@@ -85,7 +85,7 @@ module _ (capacity : ℕ) (before : List Pool) (pool : Pool) (share : Share capa
   record IsExpected : Type 0 where
     fault : PoolsFault
     refused : IsRefused capacity all fault
-    is : refusal_of capacity before pool ≡ cause_of_fault fault
+    is : selling_refusal capacity before pool ≡ cause_of_fault fault
 
   expected : IsExpected
   expected = by (position (λ other. meets other pool) before) refl
@@ -111,16 +111,16 @@ module _ (capacity : ℕ) (before : List Pool) (pool : Pool) (share : Share capa
       by None e = where_apart (all_apart all (length before + 1) (omega (arith, many)) (none_found all (length before) pool (meeting ∙ e) none_before)) e
           (cases_lt capacity (capacities before + pool.capacity))
 
-  refused_for : (fault : PoolsFault) → IsRefused capacity all fault → refusal_of capacity before pool ≡ cause_of_fault fault
+  refused_for : (fault : PoolsFault) → IsRefused capacity all fault → selling_refusal capacity before pool ≡ cause_of_fault fault
   refused_for fault is = let e = expected in e.is ∙ ap cause_of_fault (one_refused capacity all e.fault fault e.refused is)
 
 -- the same of pools that are those before it and it
 pub refused_so : (capacity : ℕ) (before all : List Pool) (pool : Pool) → Share capacity before → is_network pool ≡ true → length before < 16 → all ≡ before ++ pool ∷ [] →
-    (fault : PoolsFault) → IsRefused capacity all fault → refusal_of capacity before pool ≡ cause_of_fault fault
+    (fault : PoolsFault) → IsRefused capacity all fault → selling_refusal capacity before pool ≡ cause_of_fault fault
 refused_so capacity before all pool share network few are fault is = refused_for capacity before pool share network few fault (subst (λ l. IsRefused capacity l fault) are is)
 
 -- where it is sold, all share the capacity
-pub sold_share : (capacity : ℕ) (before : List Pool) (pool : Pool) → Share capacity before → refusal_of capacity before pool ≡ None →
+pub sold_share : (capacity : ℕ) (before : List Pool) (pool : Pool) → Share capacity before → selling_refusal capacity before pool ≡ None →
     Share capacity (before ++ pool ∷ [])
 sold_share capacity before pool share none = by (cases_Bool (is_network pool)) (cases_lt (length before) 16)
   where

@@ -3,7 +3,7 @@ use Rattle.std.proofs.Common.{◌≡◌, ◌∙◌, ℕ, suc, ◌+◌, ◌-◌, 
 use Rattle.std.proofs.lemmas.{List.{map-append}, Option.{slice_get_within, get_or_from_slice_get}}
 use Rattle.ptu_outside.specs.{Departure.{Departure}, MemoryPort.{MemoryPort}}
 use Rattle.ptu_grandmaster.specs.Gm.{KeptGm, port_at, with_port}
-use Rattle.ptu_pool_run.specs.{Output.{line_text}, Sending.{sent_line}}
+use Rattle.ptu_pool_run.specs.{Output.{pool_line_text}, Sending.{sent_line}}
 use Rattle.ptu_nodes.specs.{GrandmasterPorts.{in_ports}, Standing.{AreIdle}}
 use Rattle.ptu_pool_run.specs.Ports.{sent_texts}
 
@@ -20,11 +20,11 @@ AreTold line number index datagrams texts texts' =
 
 pub next_told : (line number index next : ℕ) (datagrams : List Departure) (texts now more : List (List ℕ)) (d : Departure) →
     AreTold line number index datagrams texts now → slice_get datagrams index ≡ Some d → next ≡ index + 1 →
-    more ≡ now ++ line_text (sent_line line number d) ∷ [] → AreTold line number next datagrams texts more
+    more ≡ now ++ pool_line_text (sent_line line number d) ∷ [] → AreTold line number next datagrams texts more
 next_told line number index next datagrams texts now more d told is next_is more_is =
     ap (λ n. more ++ sent_texts line number (drop n datagrams)) next_is
     ∙ ap (λ l. l ++ sent_texts line number (drop (index + 1) datagrams)) more_is
-    ∙ append_assoc now (line_text (sent_line line number d) ∷ []) _
+    ∙ append_assoc now (pool_line_text (sent_line line number d) ∷ []) _
     ∙ ap (λ l. now ++ sent_texts line number l) (sym (drop-at datagrams index d is))
     ∙ told
 
@@ -35,9 +35,9 @@ AreToldBehind line number before datagrams texts texts' =
 
 pub next_told_behind : (line number before : ℕ) (datagrams : List Departure) (texts now more : List (List ℕ)) (d : Departure) →
     AreToldBehind line number before datagrams texts now → slice_get datagrams (length now - before) ≡ Some d →
-    more ≡ now ++ line_text (sent_line line number d) ∷ [] → AreToldBehind line number before datagrams texts more
+    more ≡ now ++ pool_line_text (sent_line line number d) ∷ [] → AreToldBehind line number before datagrams texts more
 next_told_behind line number before datagrams texts now more d told is more_is =
-    let many : length more ≡ length now + 1 = ap length more_is ∙ length-append now (line_text (sent_line line number d) ∷ []) in (
+    let many : length more ≡ length now + 1 = ap length more_is ∙ length-append now (pool_line_text (sent_line line number d) ∷ []) in (
       omega (arith, many, told.0),
       next_told line number (length now - before) (length more - before) datagrams texts now more d told.1 is (omega (arith, many, told.0)) more_is,
     )
@@ -51,7 +51,7 @@ pub told_more : (line number : ℕ) (ds es : List Departure) (texts now more : L
     now ≡ texts ++ sent_texts line number ds → more ≡ now ++ sent_texts line number es → more ≡ texts ++ sent_texts line number (ds ++ es)
 told_more line number ds es texts now more first second =
     second ∙ ap (λ l. l ++ sent_texts line number es) first ∙ append_assoc texts (sent_texts line number ds) (sent_texts line number es)
-    ∙ ap (λ l. texts ++ l) (sym (map-append (λ d. line_text (sent_line line number d)) ds es))
+    ∙ ap (λ l. texts ++ l) (sym (map-append (λ d. pool_line_text (sent_line line number d)) ds es))
 
 -- each port in turn is told and cleared
 pub told_ports : (line number : ℕ) (g : KeptGm MemoryPort) (t0 t1 t2 t3 t4 t5 : List (List ℕ)) →

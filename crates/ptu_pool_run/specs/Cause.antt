@@ -6,19 +6,19 @@ use Rattle.ptu_script.specs.declared.cause.Cause.TheVariants as scripts
 use Rattle.ptu_pool_run.specs.declared.cause.PoolCause.{PoolCause}
 use Rattle.ptu_pool_run.specs.declared.cause.PoolCause.TheVariants.{Size, Long, Text, Word, Count, Field, Order, Net, Full, Overlap, Over, Number}
 
-abbrev pub text_of : PoolCause → List ℕ
-text_of Size = codes "size"
-text_of Long = codes "long"
-text_of Text = codes "text"
-text_of Word = codes "word"
-text_of Count = codes "count"
-text_of (Field number) = codes "field " ++ decimal number
-text_of Order = codes "order"
-text_of Net = codes "net"
-text_of Full = codes "full"
-text_of Overlap = codes "overlap"
-text_of Over = codes "over"
-text_of Number = codes "number"
+abbrev pub pool_cause_text : PoolCause → List ℕ
+pool_cause_text Size = codes "size"
+pool_cause_text Long = codes "long"
+pool_cause_text Text = codes "text"
+pool_cause_text Word = codes "word"
+pool_cause_text Count = codes "count"
+pool_cause_text (Field number) = codes "field " ++ decimal number
+pool_cause_text Order = codes "order"
+pool_cause_text Net = codes "net"
+pool_cause_text Full = codes "full"
+pool_cause_text Overlap = codes "overlap"
+pool_cause_text Over = codes "over"
+pool_cause_text Number = codes "number"
 
 -- the cause of the same name; a line that is read names no node and no judge
 abbrev pub cause_of_script : Cause → PoolCause
@@ -35,5 +35,5 @@ cause_of_script scripts.Number = Number
 cause_of_script scripts.Stock = Word
 
 -- the cause of the same name
-abbrev pub cause_of_line : LineCause → PoolCause
-cause_of_line cause = cause_of_script (script_cause cause)
+abbrev pub pool_cause_of_line : LineCause → PoolCause
+pool_cause_of_line cause = cause_of_script (script_cause cause)

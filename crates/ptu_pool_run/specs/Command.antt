@@ -8,49 +8,49 @@ use Rattle.ptu_pool_run.specs.declared.command.PoolCommand.{PoolCommand}
 use Rattle.ptu_pool_run.specs.declared.command.PoolCommand.TheVariants as commands
 use Rattle.ptu_pool_run.specs.declared.verb.PoolVerb.{PoolVerb}
 use Rattle.ptu_pool_run.specs.declared.verb.PoolVerb.TheVariants.{Gm, Pool, Rx, Turn}
-use Rattle.ptu_pool_run.specs.Verb.{count_of, verb_named}
+use Rattle.ptu_pool_run.specs.Verb.{count_of, pool_verb_named}
 
 -- T IP
-abbrev pub handed_in : List ℕ → Result (ℕ × ℕ) Cause
-handed_in line = do
+abbrev pub pool_moment_in : List ℕ → Result (ℕ × ℕ) Cause
+pool_moment_in line = do
   at ← field 2 moment_of line
   from ← field 3 ip_of line
   Ok (at, from)
 
 -- what stands behind the first word, by the form of its line
-unfoldable pub fields_in : PoolVerb → List ℕ → Result PoolCommand Cause
-fields_in Gm line = do
+unfoldable pub pool_fields_in : PoolVerb → List ℕ → Result PoolCommand Cause
+pool_fields_in Gm line = do
   setup ← grandmaster_in line
   Ok (commands.Grandmaster setup)
-fields_in Pool line = do
+pool_fields_in Pool line = do
   net ← field 2 ip_of line
   bits ← field 3 (from_to 0 32) line
   capacity ← field 4 capacity_of line
   Ok (commands.Sell (record { net = net; bits = bits; capacity = capacity }))
-fields_in Rx line = do
+pool_fields_in Rx line = do
   at ← field 2 moment_of line
   from ← field 3 ip_of line
   octets ← field 4 octets_of line
   Ok (commands.Receive at from octets)
-fields_in Turn line = do
+pool_fields_in Turn line = do
   at ← field 2 moment_of line
   pool ← field 3 (from_to 1 16) line
   table ← field 4 (from_to 0 3) line
   Ok (commands.Turn at pool table)
 
 -- the command of a line that begins with this word
-abbrev pub command_by : Option PoolVerb → List ℕ → Result PoolCommand Cause
-command_by None line = Err Word
-command_by (Some verb) line = if length (words_of line) == count_of verb then fields_in verb line else Err Count
+abbrev pub pool_command_by : Option PoolVerb → List ℕ → Result PoolCommand Cause
+pool_command_by None line = Err Word
+pool_command_by (Some verb) line = if length (words_of line) == count_of verb then pool_fields_in verb line else Err Count
 
 -- what a line commands, where it commands anything, or why it is refused
-unfoldable pub command_of : List ℕ → Result (Option PoolCommand) Cause
-command_of line =
+unfoldable pub pool_command_of : List ℕ → Result (Option PoolCommand) Cause
+pool_command_of line =
     if is_comment line then Ok None
     else do
-      command ← command_by (verb_named (unwrap_or (word_of line 1) [])) line
+      command ← pool_command_by (pool_verb_named (unwrap_or (word_of line 1) [])) line
       Ok (Some command)
 
 -- a line is refused for this cause
-abbrev pub IsRefused : List ℕ → Cause → Type 0
-IsRefused line cause = command_of line ≡ Err cause
+abbrev pub IsPoolLineRefused : List ℕ → Cause → Type 0
+IsPoolLineRefused line cause = pool_command_of line ≡ Err cause

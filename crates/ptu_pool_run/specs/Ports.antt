@@ -4,7 +4,7 @@ use Rattle.ptu_outside.specs.{Departure.{Departure}, MemoryPort.{MemoryPort}}
 use Rattle.ptu_profile.specs.declared.grandmaster.GmConfig.{GmConfig}
 use Rattle.ptu_grandmaster.specs.Gm.{KeptGm}
 use Rattle.ptu_pools.specs.{Events.{PoolEvent}, Standing.{KeptPools, StandFor}}
-use Rattle.ptu_pool_run.specs.Output.{line_text}
+use Rattle.ptu_pool_run.specs.Output.{pool_line_text}
 use Rattle.ptu_nodes.specs.Standing.{AreIdle, AreSure}
 use Rattle.ptu_pool_run.specs.Sending.{sent_line}
 
@@ -35,4 +35,4 @@ AreOthersSame place old new =
 
 -- the texts of datagrams that the pool with this number sent at this line
 abbrev pub sent_texts : ℕ → ℕ → List Departure → List (List ℕ)
-sent_texts line number datagrams = map (λ d. line_text (sent_line line number d)) datagrams
+sent_texts line number datagrams = map (λ d. pool_line_text (sent_line line number d)) datagrams

@@ -9,7 +9,7 @@ use Rattle.ptu_pools.specs.{declared.pool.Pool.{Pool}, Events.{PoolEvent, is_own
 use Rattle.ptu_script.specs.declared.command.GrandmasterSetup.{GrandmasterSetup}
 use Rattle.ptu_pool_run.specs.declared.{cause.PoolCause.{PoolCause}, output.PoolLine.{PoolLine}}
 use Rattle.ptu_pool_run.specs.declared.output.PoolLine.TheVariants.{Sent, Stranger, Bad, End}
-use Rattle.ptu_pool_run.specs.{Output.{line_text}, Reading.{At, Told, opening, rules}}
+use Rattle.ptu_pool_run.specs.{Output.{pool_line_text}, Reading.{At, Told, none_told, pool_rules}}
 use Rattle.ptu_pool_run.specs.Sending.{grandmaster_of, lines_of_event, sends_at, sent_line}
 
 -- ---- what a script says
@@ -24,15 +24,15 @@ abbrev pub told_until : Told → ℕ → List ScriptLine → Told
 told_until told before [] = told
 told_until told before (Refused cause ∷ rest) = told
 told_until told before (Whole text ∷ rest) =
-    told_at told (rules.step told (before + 1) text) (λ after. told_until after (before + 1) rest)
+    told_at told (pool_rules.step told (before + 1) text) (λ after. told_until after (before + 1) rest)
 
 -- what a script says
-unfoldable pub told_by : List ℕ → Told
-told_by script = told_until opening 0 (script_lines script)
+unfoldable pub told_in : List ℕ → Told
+told_in script = told_until none_told 0 (script_lines script)
 
 -- how a script ends: with so many lines, or with the first that is refused
-abbrev pub end_of : List ℕ → Ending PoolCause
-end_of script = ending_of rules opening (script_lines script)
+abbrev pub pool_ending : List ℕ → Ending PoolCause
+pool_ending script = ending_of pool_rules none_told (script_lines script)
 
 -- ---- what is written
 
@@ -55,12 +55,12 @@ last_line (endings.Refused number cause) = Bad number cause
 -- the lines of output
 abbrev pub poured_lines : List ℕ → List PoolLine
 poured_lines script =
-    let told = told_by script in
-    lines_by_setup told.setup told.pools told.events ++ last_line (end_of script) ∷ []
+    let told = told_in script in
+    lines_by_setup told.setup told.pools told.events ++ last_line (pool_ending script) ∷ []
 
 -- the output, in pieces and whole
 abbrev pub poured_texts : List ℕ → List (List ℕ)
-poured_texts script = map line_text (poured_lines script)
+poured_texts script = map pool_line_text (poured_lines script)
 
 abbrev pub poured : List ℕ → List ℕ
 poured script = joined (poured_texts script)

@@ -25,18 +25,18 @@ use Rattle.ptu_pools.specs.Pool.{capacity_at, is_in, is_in_at}
 use Rattle.ptu_script.specs.declared.command.GrandmasterSetup.{GrandmasterSetup}
 use Rattle.ptu_world.specs.Deeds.{Grandmaster}
 use Rattle.ptu_world.specs.Promises.{IsDecidedByRoom, Request, Timing, capacity_then, decision, messages_in, timing_to}
-use Rattle.ptu_nodes.specs.Standing.{config_of}
+use Rattle.ptu_nodes.specs.Standing.{setup_config}
 use Rattle.ptu_pool_run.specs.declared.command.PoolCommand.{PoolCommand}
 use Rattle.ptu_pool_run.specs.declared.command.PoolCommand.TheVariants as commands
 use Rattle.ptu_pool_run.specs.declared.output.PoolLine.{PoolLine}
 use Rattle.ptu_pool_run.specs.declared.output.PoolLine.TheVariants.{Sent, Stranger, Bad, End}
-use Rattle.ptu_pool_run.specs.{Output.{line_text}, Reading.{Told, events_of, opening, rules, step}}
+use Rattle.ptu_pool_run.specs.{Output.{pool_line_text}, Reading.{Told, pool_events, none_told, pool_rules, told_after}}
 use Rattle.ptu_pool_run.specs.Sending.{sent_line}
-use Rattle.ptu_pool_run.specs.Poured.{lines_of_pool, own_at, own_lines_by, poured_lines, poured_texts, told_by, told_until}
+use Rattle.ptu_pool_run.specs.Poured.{lines_of_pool, own_at, own_lines_by, poured_lines, poured_texts, told_in, told_until}
 
 -- the history of the pool at this place, after all that a script says
 abbrev pub history_of : GrandmasterSetup → Told → ℕ → List Record
-history_of setup told i = pool_history (config_of setup) told.pools i (events_of told.events)
+history_of setup told i = pool_history (setup_config setup) told.pools i (pool_events told.events)
 
 -- two scripts say the same of the pool at this place: of the grandmaster, of the pools, and of the pool's own events, at the same
 -- lines
@@ -57,7 +57,7 @@ timing_in (End lines) = None
 -- the messages in a pool's history are, one for one and in order, the datagrams in its lines but for Signaling
 abbrev pub AreMessagesWritten : List ℕ → GrandmasterSetup → ℕ → Type 0
 AreMessagesWritten script setup i =
-    filter_map timing_in (lines_of_pool i script) ≡ messages_in (config_of setup).epoch [] (history_of setup (told_by script) i)
+    filter_map timing_in (lines_of_pool i script) ≡ messages_in (setup_config setup).epoch [] (history_of setup (told_in script) i)
 
 -- the line is of a datagram to an address of the pool at this place
 abbrev pub is_line_to : List Pool → ℕ → PoolLine → Bool
@@ -68,7 +68,7 @@ is_line_to pools i (End lines) = false
 
 -- the lines to the addresses of the pool, in order
 abbrev pub lines_to_pool : ℕ → List ℕ → List PoolLine
-lines_to_pool i script = filter (is_line_to (told_by script).pools i) (poured_lines script)
+lines_to_pool i script = filter (is_line_to (told_in script).pools i) (poured_lines script)
 
 -- ---- events
 
@@ -76,7 +76,7 @@ lines_to_pool i script = filter (is_line_to (told_by script).pools i) (poured_li
 pub record Sold (script : List ℕ) : Type 0 where
   pub lines : ℕ
   pub told : Told
-  pub says : told_until opening 0 (take lines (script_lines script)) ≡ told
+  pub says : told_until none_told 0 (take lines (script_lines script)) ≡ told
   pub setup : GrandmasterSetup
   pub is_set_up : told.setup ≡ Some setup
   pub place : ℕ
@@ -91,8 +91,8 @@ past p = history_of p.setup p.told p.place
 pub record GoesOnInPool {script : List ℕ} (p : Sold script) (line : ℕ) (command : PoolCommand) (events : List (ℕ × Event)) : Type 0 where
   pub after : Told
   pub texts : List (List ℕ)
-  pub step : step p.told line command ≡ Goes after texts
-  pub history : history_of p.setup after p.place ≡ history_after (opened_with (p.pool).capacity (config_of p.setup)) (past p) events
+  pub told_after : told_after p.told line command ≡ Goes after texts
+  pub history : history_of p.setup after p.place ≡ history_after (opened_with (p.pool).capacity (setup_config p.setup)) (past p) events
 
 -- the place of the pool that a command hands something to
 abbrev pub pool_addressed : Told → PoolCommand → Option ℕ
@@ -106,16 +106,16 @@ pool_addressed told (commands.Turn t number table) = Some (number - 1)
 pub record FollowsEvents (script : List ℕ) : Type 0 where
   pub begins : (p : Sold script) → p.told.events ≡ [] → past p ≡ []
   pub datagram : (p : Sold script) (line t from : ℕ) (octets : List ℕ) → is_in from p.pool ≡ true
-      → GoesOnInPool p line (commands.Receive t from octets) (events_of_datagram (config_of p.setup) t from octets)
+      → GoesOnInPool p line (commands.Receive t from octets) (events_of_datagram (setup_config p.setup) t from octets)
   pub turn : (p : Sold script) (line t table : ℕ) → GoesOnInPool p line (commands.Turn t (p.place + 1) table) ((t, events.Turn table) ∷ [])
-  pub others : (p : Sold script) (line : ℕ) (command : PoolCommand) (after : Told) (texts : List (List ℕ)) → step p.told line command ≡ Goes after texts
+  pub others : (p : Sold script) (line : ℕ) (command : PoolCommand) (after : Told) (texts : List (List ℕ)) → told_after p.told line command ≡ Goes after texts
       → pool_addressed p.told command ≢ Some p.place → history_of p.setup after p.place ≡ past p
 
 -- ---- requests
 
 -- the grandmaster of the pool: it has the pool's own capacity and history
 abbrev pub its_grandmaster : {script : List ℕ} → Sold script → Grandmaster
-its_grandmaster p = record { ip = (p.setup).ip; config = config_of p.setup; capacity = (p.pool).capacity; past = past p }
+its_grandmaster p = record { ip = (p.setup).ip; config = setup_config p.setup; capacity = (p.pool).capacity; past = past p }
 
 -- a datagram from an address of the pool hands the REQUEST to the pool's grandmaster
 pub record IsHandedToPool {script : List ℕ} (p : Sold script) (r : Request) : Type 0 where
@@ -129,8 +129,8 @@ pub record IsAnsweredByPool {script : List ℕ} (p : Sold script) (line : ℕ) (
   pub after : Told
   pub before : List Tlv
   pub behind : List Tlv
-  pub step : step p.told line (commands.Receive r.handed.at r.handed.from r.handed.octets)
-      ≡ Goes after (line_text (sent_line line (p.place + 1) (reply_to (config_of p.setup) r.handed.from r.header (before ++ answer_by r.ask (decision r) ∷ behind))) ∷ [])
+  pub told_after : told_after p.told line (commands.Receive r.handed.at r.handed.from r.handed.octets)
+      ≡ Goes after (pool_line_text (sent_line line (p.place + 1) (reply_to (setup_config p.setup) r.handed.from r.header (before ++ answer_by r.ask (decision r) ∷ behind))) ∷ [])
   pub place : length before ≡ length r.before
   pub all : length (before ++ answer_by r.ask (decision r) ∷ behind) ≡ length (r.before ++ items.Request r.ask ∷ r.behind)
 
@@ -145,10 +145,10 @@ pub record DecidesByOwnRoom (script : List ℕ) : Type 0 where
 
 -- what the pool at this place is opened with, and the events that its history is of
 abbrev pub pool_opening : GrandmasterSetup → Told → ℕ → Config
-pool_opening setup told i = opened_with (capacity_at told.pools i) (config_of setup)
+pool_opening setup told i = opened_with (capacity_at told.pools i) (setup_config setup)
 
 abbrev pub core_events : GrandmasterSetup → Told → ℕ → List (ℕ × Event)
-core_events setup told i = flat_map (driven.events_of (config_of setup)) (map gm_event (pool_events.own told.pools i (events_of told.events)))
+core_events setup told i = flat_map (driven.events_of (setup_config setup)) (map gm_event (pool_events.own told.pools i (pool_events told.events)))
 
 -- the moments at which the pool takes the turns of a table
 abbrev pub turns_of_pool : GrandmasterSetup → Told → ℕ → ℕ → List ℕ
@@ -157,50 +157,50 @@ turns_of_pool setup told i table = turn_moments (pool_opening setup told i) (cor
 -- of each pool, up to every moment: the messages of a kind to a client, each as long as the period that was granted for it, are
 -- together no longer than the time in which the client held a grant of the kind; and so it is at each logarithm alone
 pub record ServesClientsOfPools (script : List ℕ) : Type 0 where
-  pub periods : (setup : GrandmasterSetup) (i : ℕ) (c : Client) (k : Kind) (x : ℕ) → (told_by script).setup ≡ Some setup →
-      let all = history_of setup (told_by script) i in periods_sent all c k x ≤ held_time all c k x
-  pub rate : (setup : GrandmasterSetup) (i : ℕ) (c : Client) (k : Kind) (l : ℤ) (x : ℕ) → (told_by script).setup ≡ Some setup →
-      let all = history_of setup (told_by script) i in sent_at all c k l x * period_of l ≤ held_time_at all c k l x
+  pub periods : (setup : GrandmasterSetup) (i : ℕ) (c : Client) (k : Kind) (x : ℕ) → (told_in script).setup ≡ Some setup →
+      let all = history_of setup (told_in script) i in periods_sent all c k x ≤ held_time all c k x
+  pub rate : (setup : GrandmasterSetup) (i : ℕ) (c : Client) (k : Kind) (l : ℤ) (x : ℕ) → (told_in script).setup ≡ Some setup →
+      let all = history_of setup (told_in script) i in sent_at all c k l x * period_of l ≤ held_time_at all c k l x
 
 -- the history of each pool is that of its events; and where a grant of Announce or Sync is live from the start of its chain on,
 -- through renewals at its logarithm, and each stretch of so many nanoseconds has a turn of the client's table among these events,
 -- each stretch of one period more has a message of the kind to the client
 pub record SendsInTimeToPools (script : List ℕ) : Type 0 where
-  pub by_events : (setup : GrandmasterSetup) (i : ℕ) → (told_by script).setup ≡ Some setup →
-      history_of setup (told_by script) i ≡ core_history (pool_opening setup (told_by script) i) (core_events setup (told_by script) i)
+  pub by_events : (setup : GrandmasterSetup) (i : ℕ) → (told_in script).setup ≡ Some setup →
+      history_of setup (told_in script) i ≡ core_history (pool_opening setup (told_in script) i) (core_events setup (told_in script) i)
   pub in_each : (setup : GrandmasterSetup) (i : ℕ) (c : Client) (k : Kind) (n : ℕ) (l : ℤ) (u between from to : ℕ) →
-      (told_by script).setup ≡ Some setup → k ≢ DelayResp →
-      let all = history_of setup (told_by script) i in
+      (told_in script).setup ≡ Some setup → k ≢ DelayResp →
+      let all = history_of setup (told_in script) i in
       last_decision all c k ≡ Some (Granted n c k l u) → chain all c k ≤ from → to ≤ u →
-      IsInEach between (turns_of_pool setup (told_by script) i (table_of c)) from to →
+      IsInEach between (turns_of_pool setup (told_in script) i (table_of c)) from to →
       IsInEach (period_of l + between) (sent_moments all c k) from to
 
 -- ---- all
 
 pub record KeepsPools (script : List ℕ) : Type 0 where
-  -- the output is that of the rules: each line's own, up to the first that is refused
-  pub by_rules : texts_of rules opening (script_lines script) ≡ poured_texts script
+  -- the output is that of the pool_rules: each line's own, up to the first that is refused
+  pub by_rules : texts_of pool_rules none_told (script_lines script) ≡ poured_texts script
   -- what is written of a pool is what the core does with the pool's own events, whatever else the script says
-  pub own : (i : ℕ) → let told = told_by script in
+  pub own : (i : ℕ) → let told = told_in script in
       lines_of_pool i script ≡ own_lines_by told.setup told.pools i (own_at told.pools i told.events)
   -- so no customer changes what another gets
-  pub apart : (other : List ℕ) (i : ℕ) → SayAlike i (told_by script) (told_by other) →
+  pub apart : (other : List ℕ) (i : ℕ) → SayAlike i (told_in script) (told_in other) →
       lines_of_pool i script ≡ lines_of_pool i other
   -- the lines of a pool are those to its own addresses: each goes to an address of this pool, and none of another pool's does
   pub receivers : (i : ℕ) → lines_of_pool i script ≡ lines_to_pool i script
   -- the history of a pool is what its lines say, message for message, and what its own events make
-  pub messages : (setup : GrandmasterSetup) (i : ℕ) → (told_by script).setup ≡ Some setup → AreMessagesWritten script setup i
+  pub messages : (setup : GrandmasterSetup) (i : ℕ) → (told_in script).setup ≡ Some setup → AreMessagesWritten script setup i
   pub history : FollowsEvents script
   -- each REQUEST is decided by the room in its own pool
   pub granted_by_room : DecidesByOwnRoom script
   -- what is held in a pool is within its own capacity at every moment, and what is held in all is within that of the grandmaster
-  pub each_within : (setup : GrandmasterSetup) (i x : ℕ) → (told_by script).setup ≡ Some setup →
-      held (history_of setup (told_by script) i) x ≤ capacity_at (told_by script).pools i
-  pub all_within : (setup : GrandmasterSetup) (x : ℕ) → (told_by script).setup ≡ Some setup →
-      over_all (told_by script).pools (λ i. held (history_of setup (told_by script) i) x) ≤ setup.capacity
+  pub each_within : (setup : GrandmasterSetup) (i x : ℕ) → (told_in script).setup ≡ Some setup →
+      held (history_of setup (told_in script) i) x ≤ capacity_at (told_in script).pools i
+  pub all_within : (setup : GrandmasterSetup) (x : ℕ) → (told_in script).setup ≡ Some setup →
+      over_all (told_in script).pools (λ i. held (history_of setup (told_in script) i) x) ≤ setup.capacity
   -- and so are their timing messages, at sixteen seconds of one sixteenth each
-  pub messages_within : (setup : GrandmasterSetup) (x : ℕ) → (told_by script).setup ≡ Some setup →
-      over_all (told_by script).pools (λ i. count (history_of setup (told_by script) i) x) * (16 * 1000000000) ≤ setup.capacity * x
+  pub messages_within : (setup : GrandmasterSetup) (x : ℕ) → (told_in script).setup ≡ Some setup →
+      over_all (told_in script).pools (λ i. count (history_of setup (told_in script) i) x) * (16 * 1000000000) ≤ setup.capacity * x
   -- no client of a pool gets more messages of a kind than whole periods in which it held a grant
   pub each_client : ServesClientsOfPools script
   -- and messages come in each period and the time between the turns of its pool

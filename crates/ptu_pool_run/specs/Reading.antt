@@ -1,4 +1,4 @@
--- What the lines of a script of pools say, and why one is refused, as rules of a program over lines (the project's own choice).
+-- What the lines of a script of pools say, and why one is refused, as pool_rules of a program over lines (the project's own choice).
 use Rattle.std.specs.Prelude.{ℕ, ◌-◌, nat_le, if◌then◌else◌, List, [], ◌∷◌, ◌++◌, length, map, Option, Some, None, Result, Ok, Err}
 use Rattle.ptu_report.specs.Rules.{Rules, Outcome, Goes, Refuses}
 use Rattle.ptu_script.specs.declared.cause.Cause.{Cause}
@@ -9,16 +9,16 @@ use Rattle.ptu_pool_run.specs.declared.cause.PoolCause.TheVariants.{Order, Numbe
 use Rattle.ptu_pool_run.specs.declared.command.PoolCommand.{PoolCommand}
 use Rattle.ptu_pool_run.specs.declared.command.PoolCommand.TheVariants as commands
 use Rattle.ptu_pool_run.specs.declared.output.PoolLine.TheVariants.{Bad, End}
-use Rattle.ptu_pool_run.specs.{Cause.{cause_of_line, cause_of_script}, Command.{command_of}}
-use Rattle.ptu_pool_run.specs.{Output.{line_text}, Sending.{lines_of_event}, Selling.{refusal_of}}
+use Rattle.ptu_pool_run.specs.{Cause.{pool_cause_of_line, cause_of_script}, Command.{pool_command_of}}
+use Rattle.ptu_pool_run.specs.{Output.{pool_line_text}, Sending.{lines_of_event}, Selling.{selling_refusal}}
 
 -- an event with the number of its line
 abbrev pub At : Type 0
 At = ℕ × PoolEvent
 
 -- events without the numbers of their lines
-abbrev pub events_of : List At → List PoolEvent
-events_of events = map (λ at. at.1) events
+abbrev pub pool_events : List At → List PoolEvent
+pool_events events = map (λ at. at.1) events
 
 -- what the lines so far say: what sets the grandmaster up, the pools, and the events, each in order
 pub record Told : Type 0 where
@@ -27,13 +27,13 @@ pub record Told : Type 0 where
   pub events : List At
 
 -- before the first line
-abbrev pub opening : Told
-opening = record { setup = None; pools = []; events = [] }
+abbrev pub none_told : Told
+none_told = record { setup = None; pools = []; events = [] }
 
 -- the grandmaster is set up, once
-abbrev pub set_up : Told → GrandmasterSetup → Option GrandmasterSetup → Outcome Told PoolCause
-set_up told setup None = Goes (record told { setup = Some setup }) []
-set_up told setup (Some before) = Refuses Order
+abbrev pub told_setup : Told → GrandmasterSetup → Option GrandmasterSetup → Outcome Told PoolCause
+told_setup told setup None = Goes (record told { setup = Some setup }) []
+told_setup told setup (Some before) = Refuses Order
 
 -- a pool is sold, or not, for this cause
 abbrev pub sold_by : Told → Pool → Option PoolCause → Outcome Told PoolCause
@@ -43,14 +43,14 @@ sold_by told pool (Some cause) = Refuses cause
 -- a pool is sold, before any event
 abbrev pub sold : Told → Pool → Option GrandmasterSetup → List At → Outcome Told PoolCause
 sold told pool None events = Refuses Order
-sold told pool (Some setup) [] = sold_by told pool (refusal_of setup.capacity told.pools pool)
+sold told pool (Some setup) [] = sold_by told pool (selling_refusal setup.capacity told.pools pool)
 sold told pool (Some setup) (event ∷ events) = Refuses Order
 
 -- an event happens at this line
 abbrev pub happened : Told → ℕ → PoolEvent → GrandmasterSetup → Outcome Told PoolCause
 happened told line event setup =
     Goes (record told { events = told.events ++ (line, event) ∷ [] })
-    (map line_text (lines_of_event setup told.pools (events_of told.events) line event))
+    (map pool_line_text (lines_of_event setup told.pools (pool_events told.events) line event))
 
 -- a turn of a pool that is there
 abbrev pub turned : Told → ℕ → ℕ → ℕ → ℕ → GrandmasterSetup → Outcome Told PoolCause
@@ -64,23 +64,23 @@ behind_pools (Some setup) [] then_ = Refuses Order
 behind_pools (Some setup) (pool ∷ pools) then_ = then_ setup
 
 -- what a command at this line does
-abbrev pub step : Told → ℕ → PoolCommand → Outcome Told PoolCause
-step told line (commands.Grandmaster setup) = set_up told setup told.setup
-step told line (commands.Sell pool) = sold told pool told.setup told.events
-step told line (commands.Receive t from octets) = behind_pools told.setup told.pools (happened told line (Came t from octets))
-step told line (commands.Turn t number table) = behind_pools told.setup told.pools (turned told line t number table)
+abbrev pub told_after : Told → ℕ → PoolCommand → Outcome Told PoolCause
+told_after told line (commands.Grandmaster setup) = told_setup told setup told.setup
+told_after told line (commands.Sell pool) = sold told pool told.setup told.events
+told_after told line (commands.Receive t from octets) = behind_pools told.setup told.pools (happened told line (Came t from octets))
+told_after told line (commands.Turn t number table) = behind_pools told.setup told.pools (turned told line t number table)
 
 -- the same by what the line commands
-abbrev pub outcome_by : Told → ℕ → Result (Option PoolCommand) Cause → Outcome Told PoolCause
-outcome_by told line (Ok None) = Goes told []
-outcome_by told line (Ok (Some command)) = step told line command
-outcome_by told line (Err cause) = Refuses (cause_of_script cause)
+abbrev pub told_outcome : Told → ℕ → Result (Option PoolCommand) Cause → Outcome Told PoolCause
+told_outcome told line (Ok None) = Goes told []
+told_outcome told line (Ok (Some command)) = told_after told line command
+told_outcome told line (Err cause) = Refuses (cause_of_script cause)
 
 -- what the program does: with each line, at the end, and with a line that is refused
-unfoldable pub rules : Rules Told PoolCause
-rules = record {
-  step = λ told number line. outcome_by told number (command_of line);
-  close = λ told lines. Goes told (line_text (End lines) ∷ []);
-  refusal = λ number cause. line_text (Bad number cause);
-  cause_of = cause_of_line;
+unfoldable pub pool_rules : Rules Told PoolCause
+pool_rules = record {
+  told_after = λ told number line. told_outcome told number (pool_command_of line);
+  close = λ told lines. Goes told (pool_line_text (End lines) ∷ []);
+  refusal = λ number cause. pool_line_text (Bad number cause);
+  cause_of = pool_cause_of_line;
 }

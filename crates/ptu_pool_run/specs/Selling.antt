@@ -7,8 +7,8 @@ use Rattle.ptu_pool_run.specs.declared.cause.PoolCause.{PoolCause}
 use Rattle.ptu_pool_run.specs.declared.cause.PoolCause.TheVariants.{Net, Full, Overlap, Over}
 
 -- of a whole capacity, behind the pools before it
-abbrev pub refusal_of : ℕ → List Pool → Pool → Option PoolCause
-refusal_of capacity before pool =
+abbrev pub selling_refusal : ℕ → List Pool → Pool → Option PoolCause
+selling_refusal capacity before pool =
     if not (is_network pool) then Some Net
     else if nat_le 16 (length before) then Some Full
     else if is_some (position (λ other. meets other pool) before) then Some Overlap

@@ -4,9 +4,9 @@ use Rattle.ptu_outside.specs.MemoryPort.{MemoryPort}
 use Rattle.ptu_pools.specs.{declared.pool.Pool.{Pool}, Events.{PoolEvent}, Refusal.{Share}}
 use Rattle.ptu_pools.specs.Standing.{KeptPools, StandFor}
 use Rattle.ptu_script.specs.declared.command.GrandmasterSetup.{GrandmasterSetup}
-use Rattle.ptu_nodes.specs.Standing.{config_of}
-use Rattle.ptu_pool_run.specs.{declared.pouring.Pouring.{Pouring}, Reading.{At, Told, events_of}}
-use Rattle.ptu_pool_run.specs.{Output.{line_text}, Sending.{lines_of_event}}
+use Rattle.ptu_nodes.specs.Standing.{setup_config}
+use Rattle.ptu_pool_run.specs.{declared.pouring.Pouring.{Pouring}, Reading.{At, Told, pool_events}}
+use Rattle.ptu_pool_run.specs.{Output.{pool_line_text}, Sending.{lines_of_event}}
 use Rattle.ptu_pool_run.specs.Ports.{AreAllIdle, AreAllSure}
 
 -- there was an event
@@ -23,7 +23,7 @@ pools_of (Some kept) = kept.pools
 pub record AreSold (setup : GrandmasterSetup) (kept : KeptPools MemoryPort) (events : List PoolEvent) : Type 0 where
   pub some : 1 ≤ length kept.pools
   pub share : Share setup.capacity kept.pools
-  pub stand : StandFor (config_of setup) kept events
+  pub stand : StandFor (setup_config setup) kept events
   pub idle : AreAllIdle kept
   pub sure : AreAllSure kept
 
@@ -32,13 +32,13 @@ pub record HasHappened (setup : GrandmasterSetup) (line : ℕ) (before : List Po
     (texts texts' : List (List ℕ)) : Type 0 where
   pub pools : new.pools ≡ old.pools
   pub sold : AreSold setup new (before ++ event ∷ [])
-  pub says : texts' ≡ texts ++ map line_text (lines_of_event setup old.pools before line event)
+  pub says : texts' ≡ texts ++ map pool_line_text (lines_of_event setup old.pools before line event)
 
 -- before the first pool nothing has happened
 abbrev pub HaveSold : Option GrandmasterSetup → Option (KeptPools MemoryPort) → Told → Type 0
 HaveSold setup None told = (told.pools ≡ []) × (told.events ≡ [])
 HaveSold None (Some kept) told = ⊥
-HaveSold (Some setup) (Some kept) told = (told.pools ≡ kept.pools) × AreSold setup kept (events_of told.events)
+HaveSold (Some setup) (Some kept) told = (told.pools ≡ kept.pools) × AreSold setup kept (pool_events told.events)
 
 pub record StandsFor (pouring : Pouring) (told : Told) : Type 0 where
   pub setup : told.setup ≡ pouring.setup

@@ -3,19 +3,19 @@ use Rattle.std.specs.{Prelude.{ℕ, List, [], ◌∷◌, Option, find, codes}, S
 use Rattle.ptu_pool_run.specs.declared.verb.PoolVerb.{PoolVerb}
 use Rattle.ptu_pool_run.specs.declared.verb.PoolVerb.TheVariants.{Gm, Pool, Rx, Turn}
 
-abbrev pub verbs : List PoolVerb
-verbs = Gm ∷ Pool ∷ Rx ∷ Turn ∷ []
+abbrev pub pool_verbs : List PoolVerb
+pool_verbs = Gm ∷ Pool ∷ Rx ∷ Turn ∷ []
 
 -- the word itself
-abbrev pub name_of : PoolVerb → List ℕ
-name_of Gm = codes "gm"
-name_of Pool = codes "pool"
-name_of Rx = codes "rx"
-name_of Turn = codes "turn"
+abbrev pub pool_verb_name : PoolVerb → List ℕ
+pool_verb_name Gm = codes "gm"
+pool_verb_name Pool = codes "pool"
+pool_verb_name Rx = codes "rx"
+pool_verb_name Turn = codes "turn"
 
 -- the command that the word names, if it names one
-abbrev pub verb_named : List ℕ → Option PoolVerb
-verb_named word = find (λ verb. bytes_eq word (name_of verb)) verbs
+abbrev pub pool_verb_named : List ℕ → Option PoolVerb
+pool_verb_named word = find (λ verb. bytes_eq word (pool_verb_name verb)) pool_verbs
 
 -- how many words its lines have, the first one counted
 abbrev pub count_of : PoolVerb → ℕ

@@ -1,7 +1,7 @@
 //! Why a line of a script of pools is refused, with the words that the output uses.
 
 ghost use Rattle.std.specs.Prelude.{◌≡◌, ◌≤◌, ◌+◌, ◌++◌, Some};
-ghost use Rattle.ptu_pool_run.specs.Cause.{cause_of_line, cause_of_script, text_of};
+ghost use Rattle.ptu_pool_run.specs.Cause.{pool_cause_of_line, cause_of_script, pool_cause_text};
 
 use ptu_lines::LineCause;
 use ptu_script::Cause;
@@ -40,7 +40,7 @@ pub enum PoolCause {
 }
 
 impl LinePart for PoolCause {
-    ghost text = { text_of };
+    ghost text = { pool_cause_text };
 
     ghost most = { λ _. 9 };
 
@@ -66,7 +66,7 @@ impl LinePart for PoolCause {
 }
 
 impl fmt::Display for PoolCause {
-    ghost output = { λ cause. Some (text_of cause) };
+    ghost output = { λ cause. Some (pool_cause_text cause) };
 
     fn fmt<W: fmt::Write>(&self, f: &mut fmt::Formatter<W>) -> fmt::Result {
         match self {
@@ -90,7 +90,7 @@ impl Error for PoolCause {}
 
 /// Causes of the reader of lines have the same names here.
 impl From<LineCause> for PoolCause {
-    ghost from_gives = { λ line cause. cause ≡ cause_of_line line };
+    ghost from_gives = { λ line cause. cause ≡ pool_cause_of_line line };
 
     fn from(cause: LineCause) -> PoolCause {
         PoolCause::from(Cause::from(cause))

@@ -3,7 +3,7 @@
 ghost use Rattle.std.specs.{Prelude.{◌≡◌, ◌++◌, OnOk, codes}, Fmt.{decimal}};
 ghost use Rattle.ptu_texts.specs.Texts.{address_text};
 ghost use Rattle.ptu_report_lines.specs.Statements.{channel_text};
-ghost use Rattle.ptu_pool_run.specs.Output.{line_text};
+ghost use Rattle.ptu_pool_run.specs.Output.{pool_line_text};
 
 use crate::cause::PoolCause;
 use ptu_lines::LentOctets;
@@ -57,7 +57,7 @@ fn sent_head(number: u64, pool: usize, channel: Channel, to: u32) -> LineText
 }
 
 impl Text for PoolLine<'_> {
-    ghost text = { λ l. line_text l };
+    ghost text = { λ l. pool_line_text l };
 
     fn put(&self, draft: &mut Draft) -> Result<(), OutOfMemory> {
         let mut text = LineText::new();

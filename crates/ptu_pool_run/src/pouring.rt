@@ -3,9 +3,9 @@
 ghost use Rattle.std.specs.Prelude.{◌≡◌, ◌<◌, ◌≤◌, [], IfOk};
 ghost use Rattle.ptu_pools.specs.Events.{Came};
 ghost use Rattle.ptu_report.specs.Rules.{IsOutcome};
-ghost use Rattle.ptu_pool_run.specs.Limits.{IsWithinLimits};
-ghost use Rattle.ptu_pool_run.specs.Reading.{Told, behind_pools, happened, opening, set_up, sold};
-ghost use Rattle.ptu_pool_run.specs.{Reading.{step, turned}, Standing.{StandsFor, pools_of}};
+ghost use Rattle.ptu_pool_run.specs.Limits.{IsPoolCommandInRange};
+ghost use Rattle.ptu_pool_run.specs.Reading.{Told, behind_pools, happened, none_told, told_setup, sold};
+ghost use Rattle.ptu_pool_run.specs.{Reading.{told_after, turned}, Standing.{StandsFor, pools_of}};
 
 use crate::cause::PoolCause;
 use crate::command::PoolCommand;
@@ -33,7 +33,7 @@ pub struct Pouring {
 impl Pouring {
     /// Before the first line of a script.
     pub fn new() -> Pouring
-        ensures { StandsFor result opening }
+        ensures { StandsFor result none_told }
     {
         Pouring {
             setup: None,
@@ -55,10 +55,10 @@ impl Pouring {
         texts: &mut Texts,
     ) -> Stepped
         requires means { (told : Told) × StandsFor self.old told }
-        requires limits { IsWithinLimits command }
+        requires limits { IsPoolCommandInRange command }
         requires empty { texts.old ≡ [] }
         ensures { IfOk result (λ refused. (told : Told) → StandsFor self.old told →
-            IsOutcome (step told line command.entry) (StandsFor self.new) texts.new refused) }
+            IsOutcome (told_after told line command.entry) (StandsFor self.new) texts.new refused) }
     {
         match command {
             PoolCommand::Grandmaster(setup) => Ok(self.set_up(setup)),
@@ -73,7 +73,7 @@ impl Pouring {
     // The grandmaster is set up, once.
     fn set_up(&mut self, setup: GrandmasterSetup) -> Option<PoolCause>
         ensures { (told : Told) → StandsFor self.old told →
-            IsOutcome (set_up told setup told.setup) (StandsFor self.new) [] result }
+            IsOutcome (told_setup told setup told.setup) (StandsFor self.new) [] result }
     {
         if self.setup.is_some() {
             return Some(PoolCause::Order);

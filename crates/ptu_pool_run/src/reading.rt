@@ -2,8 +2,8 @@
 
 ghost use Rattle.std.specs.Prelude.{◌≡◌, IfOk, IfSome, unwrap_or, []};
 ghost use Rattle.ptu_lines.specs.Words.{word_of};
-ghost use Rattle.ptu_pool_run.specs.Command.{command_by, command_of, fields_in, handed_in};
-ghost use Rattle.ptu_pool_run.specs.{Limits.{IsWithinLimits}, Verb.{verb_named}};
+ghost use Rattle.ptu_pool_run.specs.Command.{pool_command_by, pool_command_of, pool_fields_in, pool_moment_in};
+ghost use Rattle.ptu_pool_run.specs.{Limits.{IsPoolCommandInRange}, Verb.{pool_verb_named}};
 ghost use Rattle.ptu_pool_run.specs.declared.verb.PoolVerb.TheVariants as verbs;
 
 use crate::command::PoolCommand;
@@ -19,19 +19,19 @@ use ptu_units::Moment;
 use ptu_units::sizes::LONGEST_DATAGRAM;
 
 // `gm IP CLOCK PORT DOMAIN CLASS CAPACITY MAX`
-#[tactic(auto, unfolding(crate::specs::Command::fields_in))]
+#[tactic(auto, unfolding(crate::specs::Command::pool_fields_in))]
 fn gm<'a>(line: &WordList) -> Result<PoolCommand<'a>, Cause>
-    ensures value { result ≡ fields_in verbs.Gm line.now }
-    ensures within { IfOk result IsWithinLimits }
+    ensures value { result ≡ pool_fields_in verbs.Gm line.now }
+    ensures within { IfOk result IsPoolCommandInRange }
 {
     Ok(PoolCommand::Grandmaster(grandmaster(line)?))
 }
 
 // `pool IP BITS N`
-#[tactic(auto, unfolding(crate::specs::Command::fields_in))]
+#[tactic(auto, unfolding(crate::specs::Command::pool_fields_in))]
 fn pool<'a>(line: &WordList) -> Result<PoolCommand<'a>, Cause>
-    ensures value { result ≡ fields_in verbs.Pool line.now }
-    ensures within { IfOk result IsWithinLimits }
+    ensures value { result ≡ pool_fields_in verbs.Pool line.now }
+    ensures within { IfOk result IsPoolCommandInRange }
 {
     let net = ip_field(line, 2)?;
     let bits = bits_field(line, 3)?;
@@ -44,10 +44,10 @@ fn pool<'a>(line: &WordList) -> Result<PoolCommand<'a>, Cause>
 }
 
 // `turn T I J`
-#[tactic(auto, unfolding(crate::specs::Command::fields_in))]
+#[tactic(auto, unfolding(crate::specs::Command::pool_fields_in))]
 fn turn<'a>(line: &WordList) -> Result<PoolCommand<'a>, Cause>
-    ensures value { result ≡ fields_in verbs.Turn line.now }
-    ensures within { IfOk result IsWithinLimits }
+    ensures value { result ≡ pool_fields_in verbs.Turn line.now }
+    ensures within { IfOk result IsPoolCommandInRange }
 {
     let at = moment_field(line, 2)?;
     let pool = number_field(line, 3, 1, 16)?;
@@ -61,7 +61,7 @@ fn turn<'a>(line: &WordList) -> Result<PoolCommand<'a>, Cause>
 
 // The words T and IP.
 fn handed(line: &WordList) -> Result<(Moment, u32), Cause>
-    ensures { result ≡ handed_in line.now }
+    ensures { result ≡ pool_moment_in line.now }
 {
     let at = moment_field(line, 2)?;
     let from = ip_field(line, 3)?;
@@ -69,10 +69,10 @@ fn handed(line: &WordList) -> Result<(Moment, u32), Cause>
 }
 
 // `rx T IP HEX`. The octets are put into the room.
-#[tactic(auto, unfolding(crate::specs::Command::fields_in))]
+#[tactic(auto, unfolding(crate::specs::Command::pool_fields_in))]
 fn rx<'a>(line: &WordList, room: &'a mut [u8; LONGEST_DATAGRAM]) -> Result<PoolCommand<'a>, Cause>
-    ensures value { result ≡ fields_in verbs.Rx line.now }
-    ensures within { IfOk result IsWithinLimits }
+    ensures value { result ≡ pool_fields_in verbs.Rx line.now }
+    ensures within { IfOk result IsPoolCommandInRange }
 {
     let (at, from) = handed(line)?;
     let octets = octets_field(line, 4, room)?;
@@ -85,8 +85,8 @@ fn fields<'a>(
     line: &WordList,
     room: &'a mut [u8; LONGEST_DATAGRAM],
 ) -> Result<PoolCommand<'a>, Cause>
-    ensures value { result ≡ fields_in verb line.now }
-    ensures within { IfOk result IsWithinLimits }
+    ensures value { result ≡ pool_fields_in verb line.now }
+    ensures within { IfOk result IsPoolCommandInRange }
 {
     match verb {
         PoolVerb::Gm => gm(line),
@@ -99,8 +99,8 @@ fn fields<'a>(
 // The command of a line that is no comment.
 fn command<'a>(line: &[u8], room: &'a mut [u8; LONGEST_DATAGRAM]) -> Result<PoolCommand<'a>, Cause>
     ensures value { result
-        ≡ command_by (verb_named (unwrap_or (word_of line.now 1) [])) line.now }
-    ensures within { IfOk result IsWithinLimits }
+        ≡ pool_command_by (pool_verb_named (unwrap_or (word_of line.now 1) [])) line.now }
+    ensures within { IfOk result IsPoolCommandInRange }
 {
     let words = WordList::new(line);
     match PoolVerb::of(words.word(1).unwrap_or(&[])) {
@@ -118,13 +118,13 @@ fn command<'a>(line: &[u8], room: &'a mut [u8; LONGEST_DATAGRAM]) -> Result<Pool
 /// Why the line is refused: its first word is that of no command (`Word`), it has another number of
 /// words than its command (`Count`), or the word with the least such number is outside its form or
 /// range (`Field`), in this order. No other cause is given.
-#[tactic(auto, unfolding(crate::specs::Command::command_of))]
+#[tactic(auto, unfolding(crate::specs::Command::pool_command_of))]
 pub fn read_pool_command<'a>(
     line: &[u8],
     room: &'a mut [u8; LONGEST_DATAGRAM],
 ) -> Result<Option<PoolCommand<'a>>, Cause>
-    ensures value { result ≡ command_of line.now }
-    ensures within { IfOk result (λ command. IfSome command IsWithinLimits) }
+    ensures value { result ≡ pool_command_of line.now }
+    ensures within { IfOk result (λ command. IfSome command IsPoolCommandInRange) }
 {
     if matches!(line, [] | [b'#', ..]) {
         return Ok(None);

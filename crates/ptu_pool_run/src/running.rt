@@ -3,7 +3,7 @@
 ghost use Rattle.std.specs.Prelude.{◌≡◌, ℕ, List, Some};
 ghost use Rattle.ptu_report.specs.Runs.{HasRunThrough, IfWritten};
 ghost use Rattle.ptu_pool_run.specs.{Answers.{HasPoured}, Poured.{poured_texts}};
-ghost use Rattle.ptu_pool_run.specs.{Promises.{KeepsPools}, Reading.{opening, rules}};
+ghost use Rattle.ptu_pool_run.specs.{Promises.{KeepsPools}, Reading.{none_told, pool_rules}};
 ghost use Rattle.ptu_pool_run.specs.Standing.{StandsFor};
 
 use crate::cause::PoolCause;
@@ -23,11 +23,11 @@ use std::marker::Model;
 pub struct ToldSoFar;
 
 impl Model for ToldSoFar {
-    ghost use Rattle.ptu_pool_run.specs.Reading.{Told, opening};
+    ghost use Rattle.ptu_pool_run.specs.Reading.{Told, none_told};
 
     ghost Value = { Told };
 
-    ghost view = { λ _. opening };
+    ghost view = { λ _. none_told };
 }
 
 /// What the lines so far have made, and the room for the octets of the line that is taken.
@@ -42,12 +42,12 @@ impl Reporter for Pourer {
 
     type Cause = PoolCause;
 
-    ghost rules = { rules };
+    ghost rules = { pool_rules };
 
     ghost stands_for = { λ pourer told. StandsFor pourer.pouring told };
 
     #[inline(always)]
-    #[tactic(auto, unfolding(crate::specs::Reading::rules))]
+    #[tactic(auto, unfolding(crate::specs::Reading::pool_rules))]
     fn take(&mut self, alloc: Global, number: u64, line: &[u8], texts: &mut Texts) -> Stepped {
         match read_pool_command(line, &mut self.room) {
             Ok(None) => Ok(None),
@@ -56,13 +56,13 @@ impl Reporter for Pourer {
         }
     }
 
-    #[tactic(auto, unfolding(crate::specs::Reading::rules))]
+    #[tactic(auto, unfolding(crate::specs::Reading::pool_rules))]
     fn close(&mut self, _: Global, lines: u64, texts: &mut Texts) -> Stepped {
         texts.add_text(&PoolLine::End { lines })?;
         Ok(None)
     }
 
-    #[tactic(auto, unfolding(crate::specs::Reading::rules))]
+    #[tactic(auto, unfolding(crate::specs::Reading::pool_rules))]
     fn refuse(number: u64, cause: &PoolCause, texts: &mut Texts) -> Result<(), OutOfMemory> {
         texts.add_text(&PoolLine::Bad {
             line: number,
@@ -70,7 +70,7 @@ impl Reporter for Pourer {
         })
     }
 
-    #[tactic(auto, unfolding(crate::specs::Reading::rules))]
+    #[tactic(auto, unfolding(crate::specs::Reading::pool_rules))]
     fn cause_of(cause: LineCause) -> PoolCause {
         PoolCause::from(cause)
     }
@@ -99,7 +99,7 @@ pub fn pools<S: Source, K: Sink>(
     ensures headline { (script : List ℕ) → S.left source.old ≡ Some script → KeepsPools script }
     // What was read and written, whatever is answered.
     ensures ran { HasRunThrough S.Source K.Sink source.old source.new sink.old sink.new
-        rules opening poured_texts result }
+        pool_rules none_told poured_texts result }
 {
     let pouring = Pouring::new();
     let mut pourer = Pourer {

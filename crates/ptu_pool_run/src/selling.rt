@@ -2,7 +2,7 @@
 
 ghost use Rattle.std.specs.Prelude.{◌≡◌, ◌++◌, ◌∷◌, [], All, IfErr, IfOk, None, Some, length};
 ghost use Rattle.ptu_pools.specs.Refusal.{Share};
-ghost use Rattle.ptu_pool_run.specs.{Selling.{refusal_of}, Standing.{AreSold}};
+ghost use Rattle.ptu_pool_run.specs.{Selling.{selling_refusal}, Standing.{AreSold}};
 
 use crate::cause::PoolCause;
 use ptu_nodes::config_of;
@@ -51,9 +51,9 @@ pub fn sell(
 ) -> Result<Result<Pools<MemPort>, PoolCause>, OutOfMemory>
     requires { Share setup.now.capacity before.now }
     ensures refused { IfOk result (λ sold. IfErr sold
-        (λ cause. refusal_of setup.now.capacity before.now pool ≡ Some cause)) }
+        (λ cause. selling_refusal setup.now.capacity before.now pool ≡ Some cause)) }
     ensures none { IfOk result (λ sold. IfOk sold
-        (λ _. refusal_of setup.now.capacity before.now pool ≡ None)) }
+        (λ _. selling_refusal setup.now.capacity before.now pool ≡ None)) }
     ensures pools { IfOk result (λ sold. IfOk sold
         (λ pools. pools.pools ≡ before.now ++ pool ∷ [])) }
     ensures sold { IfOk result (λ sold. IfOk sold (λ pools. AreSold setup.now pools [])) }

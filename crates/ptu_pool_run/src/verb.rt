@@ -1,7 +1,7 @@
 //! The first words of the lines in a script of pools.
 
 ghost use Rattle.std.specs.Prelude.{◌≡◌};
-ghost use Rattle.ptu_pool_run.specs.Verb.{count_of, name_of, verb_named};
+ghost use Rattle.ptu_pool_run.specs.Verb.{count_of, pool_verb_name, pool_verb_named};
 
 /// The first word of a line that is a command.
 #[derive(Clone, Copy)]
@@ -17,7 +17,7 @@ const VERBS: [PoolVerb; 4] = [PoolVerb::Gm, PoolVerb::Pool, PoolVerb::Rx, PoolVe
 impl PoolVerb {
     /// The word as it stands in a script of pools.
     pub fn name(self) -> &'static str
-        ensures { result.now ≡ name_of self }
+        ensures { result.now ≡ pool_verb_name self }
     {
         match self {
             PoolVerb::Gm => "gm",
@@ -39,7 +39,7 @@ impl PoolVerb {
 
     /// The command that this word names, or `None` where it names none.
     pub fn of(word: &[u8]) -> Option<PoolVerb>
-        ensures { result ≡ verb_named word.now }
+        ensures { result ≡ pool_verb_named word.now }
     {
         VERBS
             .iter()

@@ -12,8 +12,8 @@ pub record AreMasters (masters : List Master) : Type 0 where
   pub distinct : AllPairs (λ a b. a.ip ≢ b.ip) masters
 
 -- the header of a message of this type, whose correctionField is 0
-abbrev pub header_of : SlaveConfig → ℕ → ℕ → Header
-header_of config message_type sequence = unicast_header config.identity config.domain message_type (pos 0) sequence
+abbrev pub slave_header : SlaveConfig → ℕ → ℕ → Header
+slave_header config message_type sequence = unicast_header config.identity config.domain message_type (pos 0) sequence
 
 -- the receipt timeouts and the wait to restore, in nanoseconds
 abbrev pub timeouts : SlaveConfig → Timeouts

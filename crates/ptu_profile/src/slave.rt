@@ -36,11 +36,11 @@ pub struct SlaveConfig {
 }
 
 impl SlaveConfig {
-    ghost use Rattle.ptu_profile.specs.Slave.{header_of};
+    ghost use Rattle.ptu_profile.specs.Slave.{slave_header};
 
     /// The header of a message of this type and with this sequenceId; its correctionField is 0.
     pub fn header(&self, message_type: u8, sequence: u16) -> Header
-        ensures { result ≡ header_of self.now message_type sequence }
+        ensures { result ≡ slave_header self.now message_type sequence }
     {
         header_from(self.identity, self.domain, message_type, 0, sequence)
     }

@@ -5,7 +5,7 @@ use Rattle.ptu_lines.specs.Words.{ip_of, words_of}
 use Rattle.ptu_audit_lines.specs.declared.entry.Entry.{Entry}
 use Rattle.ptu_audit_lines.specs.declared.entry.Entry.TheVariants as entries
 use Rattle.ptu_audit_lines.specs.declared.entry.ReportLine.TheVariants as reports
-use Rattle.ptu_audit_lines.specs.Words.{any_number, field, hex_of, identity_of, is_channel, kind_named, log_of_kind, octet_log}
+use Rattle.ptu_audit_lines.specs.Words.{any_number, field, hex_of, identity_in_word, is_channel, kind_named, log_of_kind, octet_log}
 use Rattle.ptu_audit_lines.specs.Forms.{fits, fits_one, fitting, is_in_place}
 use Rattle.ptu_audit_lines.specs.Entry.{answer_forms, body_forms, cancel_forms, capacity_in, datagram_forms, decision_in, end_in, entry_of, first_of, grant_forms, header_forms, heard_forms, ignored_forms, is_among, line_of, node_forms, numbered_in, other_in, plain_entry_in, send_in, shed_in, slave_forms}
 use Rattle.ptu_audit_lines.specs.declared.entry.Decision.{Decision}
@@ -72,14 +72,14 @@ capacity_entry line w i c a n grandmaster capacity at ws rw_ ri rc ra =
 
 shed_here : (line w k l i d : List ℕ) (n : ℕ) (kind : Kind) (z : ℤ) (ip clock port : ℕ)
     → words_of line ≡ w ∷ codes "shed" ∷ k ∷ l ∷ i ∷ d ∷ [] → any_number w ≡ Some n
-    → kind_named k ≡ Some kind → octet_log l ≡ Some z → log_of_kind kind l ≡ Some z → ip_of i ≡ Some ip → identity_of d ≡ Some (clock, port)
+    → kind_named k ≡ Some kind → octet_log l ≡ Some z → log_of_kind kind l ≡ Some z → ip_of i ≡ Some ip → identity_in_word d ≡ Some (clock, port)
     → shed_in line ≡ Some (entries.Shed kind z (record { ip = ip; clock = clock; port = port }))
 unfolding shed_in fitting fits is_in_place field
 shed_here line w k l i d n kind z ip clock port ws rw_ rk ro rl ri rd = rw (ws, rw_, rk, ro, ri) (rw (rl, rd) refl)
 
 pub shed_entry : (line w k l i d : List ℕ) (n : ℕ) (kind : Kind) (z : ℤ) (ip clock port : ℕ)
     → words_of line ≡ w ∷ codes "shed" ∷ k ∷ l ∷ i ∷ d ∷ [] → any_number w ≡ Some n
-    → kind_named k ≡ Some kind → octet_log l ≡ Some z → log_of_kind kind l ≡ Some z → ip_of i ≡ Some ip → identity_of d ≡ Some (clock, port)
+    → kind_named k ≡ Some kind → octet_log l ≡ Some z → log_of_kind kind l ≡ Some z → ip_of i ≡ Some ip → identity_in_word d ≡ Some (clock, port)
     → entry_of line ≡ Some (entries.Shed kind z (record { ip = ip; clock = clock; port = port }))
 unfolding entry_of plain_entry_in is_in_place
 shed_entry line w k l i d n kind z ip clock port ws rw_ rk ro rl ri rd =

@@ -22,7 +22,7 @@ use Rattle.ptu_report_lines.specs.Statements.{kind_or_code, selected_text}
 use Rattle.ptu_audit_lines.specs.declared.entry.Entry.TheVariants as entries
 use Rattle.ptu_audit_lines.specs.Forms.{is_in_place}
 use Rattle.ptu_audit_lines.specs.Entry.{datagram_forms, entry_of, slave_forms}
-use Rattle.ptu_read_back.specs.Ranges.{IsAddress, IsAnswer, IsFault, IsHeaderFault, IsHearing, IsMaster, IsNumber, IsReason, IsReceived, IsTlvFault}
+use Rattle.ptu_read_back.specs.Ranges.{IsAddress, IsDelayAnswerInRange, IsFault, IsHeaderFault, IsHearing, IsMaster, IsNumber, IsReason, IsReceived, IsTlvFault}
 use Rattle.ptu_read_back.proofs.Forms.{IsNumbered, among}
 use Rattle.ptu_read_back.proofs.Entries.{IsOfNode, datagram_entry, slave_entry}
 use Rattle.ptu_read_back.proofs.Places.{AreIn, address_in, has_form, kind_in, number_in}
@@ -148,7 +148,7 @@ ignored_no : IsOfNode (codes "ignored")
 unfolding is_in_place
 ignored_no = record { send = refl; decision = record { granted = refl; short = refl; outside = refl; cancelled = refl; nothing = refl }; capacity = refl; shed = refl }
 
-pub delay_entry : (line : List ℕ) (n : ℕ) (answer : DelayAnswer) → IsAnswer answer → Behind line n (delay_words answer) → entry_of line ≡ Some entries.Other
+pub delay_entry : (line : List ℕ) (n : ℕ) (answer : DelayAnswer) → IsDelayAnswerInRange answer → Behind line n (delay_words answer) → entry_of line ≡ Some entries.Other
 unfolding is_in_place
 delay_entry line n (delays.Answered at) k h =
     datagram_line line n (codes "answered") (codes "at" ∷ decimal at ∷ []) 0 0 h answered_no (lit< tt, lit< tt) (number_in n h.number, (refl, (refl, (number_in at k, tt))))

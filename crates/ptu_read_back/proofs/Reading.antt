@@ -28,7 +28,7 @@ use Rattle.ptu_audit_lines.specs.declared.entry.Entry.TheVariants as entries
 use Rattle.ptu_audit_lines.specs.declared.entry.ReportLine.TheVariants as reports
 use Rattle.ptu_audit_lines.specs.Forms.{is_in_place}
 use Rattle.ptu_audit_lines.specs.Entry.{decision_in, entry_of, line_of}
-use Rattle.ptu_read_back.specs.Ranges.{IsAddress, IsAnswer, IsClient, IsDecision, IsHearing, IsInRange, IsMaster, IsNumber, IsReason, IsReceived, IsSent, IsStatement}
+use Rattle.ptu_read_back.specs.Ranges.{IsAddress, IsDelayAnswerInRange, IsClient, IsDecision, IsHearing, IsReportLineInRange, IsMaster, IsNumber, IsReason, IsReceived, IsSentInRange, IsStatement}
 use Rattle.ptu_read_back.specs.ReadBack.{IsGivenByLines, IsReadBack, decision_as, entry_as, text_in, written_report}
 use Rattle.ptu_read_back.proofs.Words.{words_again, words_are_text}
 use Rattle.ptu_read_back.proofs.Values.{channel_read, hex_read, identity_read, kind_read, log_of_kind_read, log_outside_read, log_read, number_read, octet_of_kind}
@@ -133,7 +133,7 @@ shed_back line n kind log client h k c ws =
     (number_read n h) (kind_read kind) (log_read log (octet_of_kind kind log k)) (log_of_kind_read kind log k)
     (address_read client.ip c.ip) (identity_read identity c.clock c.port))
 
-sent_back : (line : List ℕ) (n datagram : ℕ) (sent : Sent) → IsNumber n → IsNumber datagram → IsSent sent
+sent_back : (line : List ℕ) (n datagram : ℕ) (sent : Sent) → IsNumber n → IsNumber datagram → IsSentInRange sent
     → words_of line ≡ decimal n ∷ words_in (statements.Sent datagram sent) → line_of line ≡ option_map (reports.At n) (entry_as (statements.Sent datagram sent))
 sent_back line n datagram sent h k s ws =
     let words = words_in (statements.Sent datagram sent) in
@@ -161,7 +161,7 @@ some_of_received (receipts.Denial kind) = tt
 some_of_received (receipts.Cancel code) = tt
 some_of_received (receipts.Ack code) = tt
 
-delay_back : (line : List ℕ) (n : ℕ) (answer : DelayAnswer) → IsNumber n → IsAnswer answer → words_of line ≡ decimal n ∷ delay_words answer
+delay_back : (line : List ℕ) (n : ℕ) (answer : DelayAnswer) → IsNumber n → IsDelayAnswerInRange answer → words_of line ≡ decimal n ∷ delay_words answer
     → line_of line ≡ option_map (reports.At n) (Some entries.Other)
 delay_back line n answer h k ws =
     let b = behind line n (delay_words answer) h (some_of_delay answer) ws in
@@ -237,13 +237,13 @@ words_back line word words e s =
 end_spelled : (count datagrams : ℕ) → line_text (lines.End count datagrams) ≡ words_text (codes "end" ∷ decimal count ∷ decimal datagrams ∷ []) ++ 10 ∷ []
 end_spelled count datagrams = refl
 
-pub is_line : (line : ReportLine) → IsInRange line → IsLine (line_text line)
+pub is_line : (line : ReportLine) → IsReportLineInRange line → IsLine (line_text line)
 is_line (lines.At number statement) h =
     line_of_words (line_text (lines.At number statement)) (decimal number) (words_in statement) (spelled_at number statement) (spoken number statement h.0 h.1)
 is_line (lines.End count datagrams) h = line_of_words (line_text (lines.End count datagrams)) (codes "end") (decimal count ∷ decimal datagrams ∷ []) (end_spelled count datagrams) (end_spoken count datagrams h.0 h.1)
 
 -- each line is read back
-pub read_back : (line : ReportLine) → IsInRange line → IsReadBack line
+pub read_back : (line : ReportLine) → IsReportLineInRange line → IsReadBack line
 read_back (lines.At number statement) h =
     statement_back (text_in (lines.At number statement)) number statement h.0 h.1
     (words_back (line_text (lines.At number statement)) (decimal number) (words_in statement) (spelled_at number statement) (spoken number statement h.0 h.1))
@@ -252,10 +252,10 @@ read_back (lines.End count datagrams) h =
     (words_back (line_text (lines.End count datagrams)) (codes "end") (decimal count ∷ decimal datagrams ∷ []) (end_spelled count datagrams) (end_spoken count datagrams h.0 h.1))
     (number_read count h.0) (number_read datagrams h.1)
 
-each_line : (report : List ReportLine) → AllByRecursion IsInRange report → AllByRecursion (λ line. IsLine (line_text line)) report
+each_line : (report : List ReportLine) → AllByRecursion IsReportLineInRange report → AllByRecursion (λ line. IsLine (line_text line)) report
 each_line [] h = tt
 each_line (line ∷ report) h = (is_line line h.0, each_line report h.1)
 
 -- a report is given by its lines
-pub given_by_lines : (report : List ReportLine) → AllByRecursion IsInRange report → length (written_report report) ≤ 67108864 → IsGivenByLines report
+pub given_by_lines : (report : List ReportLine) → AllByRecursion IsReportLineInRange report → length (written_report report) ≤ 67108864 → IsGivenByLines report
 given_by_lines report h within = all_lines 0 report (each_line report h) (omega (arith, within))

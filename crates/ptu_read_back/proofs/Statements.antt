@@ -30,7 +30,7 @@ use Rattle.ptu_report_lines.specs.declared.{sent.Sent.{Sent}, statement.Statemen
 use Rattle.ptu_report_lines.specs.declared.statement.Statement.TheVariants as statements
 use Rattle.ptu_report_lines.specs.Statements.{channel_text, code_text, kind_or_code, selected_text, statement_text, words_text}
 use Rattle.ptu_report_lines.specs.Report.{line_text}
-use Rattle.ptu_read_back.specs.Ranges.{IsAddress, IsAnswer, IsCause, IsClient, IsDecision, IsFault, IsHeaderFault, IsHearing, IsMaster, IsNumber, IsOctetLog, IsReason, IsReceived, IsStatement, IsTlvFault, IsSent}
+use Rattle.ptu_read_back.specs.Ranges.{IsAddress, IsDelayAnswerInRange, IsCause, IsClient, IsDecision, IsFault, IsHeaderFault, IsHearing, IsMaster, IsNumber, IsOctetLog, IsReason, IsReceived, IsStatement, IsTlvFault, IsSentInRange}
 use Rattle.ptu_read_back.proofs.Words.{AreWords, IsWord, is_ink, spelled, word_wider, words_few}
 use Rattle.ptu_read_back.proofs.Values.{address_word, channel_word, identity_word, kind_word, log_word, number_word, octet_of_kind, octets_word}
 
@@ -267,7 +267,7 @@ words_of_decision (decisions.Cancelled kind at) h = (literal (codes "cancelled")
 words_of_decision (decisions.Nothing kind at) h = (literal (codes "nothing") refl refl, (kind_40 kind, (literal (codes "at") refl refl, (number_40 at h, tt))))
 words_of_decision (decisions.NoKind code) h = (literal (codes "nothing") refl refl, (number_40 code h, tt))
 
-words_of_delay : (answer : DelayAnswer) → IsAnswer answer → AreWords 40 12 (delay_words answer)
+words_of_delay : (answer : DelayAnswer) → IsDelayAnswerInRange answer → AreWords 40 12 (delay_words answer)
 words_of_delay (delays.Answered at) h = (literal (codes "answered") refl refl, (literal (codes "at") refl refl, (number_40 at h, tt)))
 words_of_delay (delays.NoGrant at) h =
     (literal (codes "silent") refl refl, (literal (codes "nogrant") refl refl, (literal (codes "at") refl refl, (number_40 at h, tt))))
@@ -370,7 +370,7 @@ short_spoken number words h k =
     let all : AreWords 40 13 (decimal number ∷ words) = (number_40 number h, k) in
     record { most = 40; count = 12; words_are = all; few = omega (arith, words_few 13 (decimal number ∷ words) all) }
 
-sent_spoken : (number datagram : ℕ) (sent : Sent) → IsNumber number → IsNumber datagram → IsSent sent → AreSpoken (decimal number) (words_in (statements.Sent datagram sent))
+sent_spoken : (number datagram : ℕ) (sent : Sent) → IsNumber number → IsNumber datagram → IsSentInRange sent → AreSpoken (decimal number) (words_in (statements.Sent datagram sent))
 sent_spoken number datagram sent h k s = record {
   most = 4096;
   count = 6;

@@ -18,7 +18,7 @@ use Rattle.ptu_texts.proofs.Read.{clock_read, decimal_glyphs, decimal_within, oc
 use Rattle.ptu_lines.specs.Words.{int_within, log_of}
 use Rattle.ptu_lines.proofs.Numbers.{printed-log_of}
 use Rattle.ptu_report_lines.specs.Statements.{channel_text}
-use Rattle.ptu_audit_lines.specs.Words.{any_number, hex_of, identity_of, is_channel, is_lower, kind_named, log_of_kind, log_outside, lower_clock, octet_log}
+use Rattle.ptu_audit_lines.specs.Words.{any_number, hex_of, identity_in_word, is_channel, is_lower, kind_named, log_of_kind, log_outside, lower_clock, octet_log}
 use Rattle.ptu_read_back.specs.Ranges.{IsAddress, IsNumber, IsOctetLog}
 use Rattle.ptu_read_back.proofs.Words.{IsWord, glyphs_are_ink, spelled, word_append, word_wider}
 
@@ -161,8 +161,8 @@ identity_word identity h =
     (glyphs_are_ink (clock_text identity.clock) (octets_glyphs (numbers.octets_of 8 identity.clock) (octets_bytes 8 identity.clock)), omega (arith, clock_size identity.clock))
     (word_append 1 19 (codes "/") (decimal identity.port) (spelled (codes "/") 1 refl refl) (number_word identity.port (omega (arith, h))))
 
-pub identity_read : (identity : PortIdentity) → identity.clock < 2 ^ 64 → identity.port ≤ 65535 → identity_of (identity_text identity) ≡ Some (identity.clock, identity.port)
-unfolding identity_of lower_clock
+pub identity_read : (identity : PortIdentity) → identity.clock < 2 ^ 64 → identity.port ≤ 65535 → identity_in_word (identity_text identity) ≡ Some (identity.clock, identity.port)
+unfolding identity_in_word lower_clock
 identity_read identity h k =
     let clock = clock_text identity.clock in
     let port = decimal identity.port in

@@ -44,7 +44,7 @@ pub record IsClient (client : Client) : Type 0 where
   pub port : client.port ≤ 65535
 
 -- a datagram that is not empty, with at most 2048 octets
-pub record IsSent (sent : Sent) : Type 0 where
+pub record IsSentInRange (sent : Sent) : Type 0 where
   pub from : IsAddress sent.from
   pub to : IsAddress sent.to
   pub octets : IsBytes sent.octets
@@ -64,10 +64,10 @@ IsDecision (decisions.Cancelled kind at) = IsNumber at
 IsDecision (decisions.Nothing kind at) = IsNumber at
 IsDecision (decisions.NoKind code) = IsNumber code
 
-abbrev pub IsAnswer : DelayAnswer → Type 0
-IsAnswer (delays.Answered at) = IsNumber at
-IsAnswer (delays.NoGrant at) = IsNumber at
-IsAnswer (delays.TooSoon at earliest) = IsNumber at × IsNumber earliest
+abbrev pub IsDelayAnswerInRange : DelayAnswer → Type 0
+IsDelayAnswerInRange (delays.Answered at) = IsNumber at
+IsDelayAnswerInRange (delays.NoGrant at) = IsNumber at
+IsDelayAnswerInRange (delays.TooSoon at earliest) = IsNumber at × IsNumber earliest
 
 abbrev pub IsHearing : Hearing → Type 0
 IsHearing (hearings.Announce master class at) = IsAddress master × IsNumber class × IsNumber at
@@ -118,18 +118,18 @@ IsCause _ = Unit {0}
 
 abbrev pub IsStatement : Statement → Type 0
 IsStatement (statements.Decided decision) = IsDecision decision
-IsStatement (statements.Asked answer) = IsAnswer answer
+IsStatement (statements.Asked answer) = IsDelayAnswerInRange answer
 IsStatement (statements.Heard hearing) = IsHearing hearing
 IsStatement (statements.Received received) = IsReceived received
 IsStatement (statements.Ignored reason) = IsReason reason
 IsStatement (statements.Capacity grandmaster capacity at) = IsAddress grandmaster × IsNumber capacity × IsNumber at
 IsStatement (statements.Shed kind log client) = IsLogOf kind log × IsClient client
 IsStatement statements.Nobody = Unit {0}
-IsStatement (statements.Sent datagram sent) = IsNumber datagram × IsSent sent
+IsStatement (statements.Sent datagram sent) = IsNumber datagram × IsSentInRange sent
 IsStatement (statements.Selected slave master) = IsAddress slave × IsMaster master
 IsStatement (statements.Bad cause) = IsCause cause
 
 -- all that a line of a report is written of is in its range
-abbrev pub IsInRange : ReportLine → Type 0
-IsInRange (lines.At number statement) = IsNumber number × IsStatement statement
-IsInRange (lines.End count datagrams) = IsNumber count × IsNumber datagrams
+abbrev pub IsReportLineInRange : ReportLine → Type 0
+IsReportLineInRange (lines.At number statement) = IsNumber number × IsStatement statement
+IsReportLineInRange (lines.End count datagrams) = IsNumber count × IsNumber datagrams

@@ -111,4 +111,4 @@ statement_text statements.Nobody = codes "nobody"
 statement_text (statements.Sent datagram sent) = sent_text datagram sent
 statement_text (statements.Selected slave master) =
     words_text (codes "selected" ∷ address_text slave ∷ selected_text master ∷ [])
-statement_text (statements.Bad cause) = words_text (codes "bad" ∷ causes.text_of cause ∷ [])
+statement_text (statements.Bad cause) = words_text (codes "bad" ∷ causes.cause_text cause ∷ [])

@@ -17,8 +17,8 @@ word_text (words.Identity identity) = identity_text identity
 word_text (words.Channel channel) = channel_text channel
 word_text (words.Selected master) = selected_text master
 
-abbrev pub texts_of : List Word → List (List ℕ)
-texts_of words = map word_text words
+abbrev pub word_texts : List Word → List (List ℕ)
+word_texts words = map word_text words
 
 -- how many octets a word has at most
 abbrev pub most : Word → ℕ

@@ -2,7 +2,7 @@
 
 ghost use Rattle.std.specs.Prelude.{◌≡◌, ◌≤◌, ◌+◌, ◌++◌};
 ghost use Rattle.ptu_report_lines.specs.Statements.{channel_text, words_text};
-ghost use Rattle.ptu_report_lines.specs.Words.{most, most_of, spaced_text, texts_of, word_text};
+ghost use Rattle.ptu_report_lines.specs.Words.{most, most_of, spaced_text, word_texts, word_text};
 
 use ptu_header::PortIdentity;
 use ptu_outside::Channel;
@@ -60,7 +60,7 @@ impl LinePart for Word {
 // Puts the words, each behind a space, before what stands in the line.
 fn put_spaced(words: &[Word], line: &mut LineText)
     requires { most_of words.now ≤ line.old.room }
-    ensures text { line.new.text ≡ spaced_text (texts_of words.now) ++ line.old.text }
+    ensures text { line.new.text ≡ spaced_text (word_texts words.now) ++ line.old.text }
     ensures room { line.old.room ≤ line.new.room + most_of words.now }
 {
     let mut left = words.len();
@@ -74,7 +74,7 @@ fn put_spaced(words: &[Word], line: &mut LineText)
 /// Puts the words, with one space between two of them, before what stands in the line.
 pub fn put_words(words: &[Word], line: &mut LineText)
     requires { most_of words.now ≤ line.old.room }
-    ensures text { line.new.text ≡ words_text (texts_of words.now) ++ line.old.text }
+    ensures text { line.new.text ≡ words_text (word_texts words.now) ++ line.old.text }
     ensures room { line.old.room ≤ line.new.room + most_of words.now }
 {
     if let Some((first, rest)) = words.split_first() {

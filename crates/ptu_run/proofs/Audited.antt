@@ -7,7 +7,7 @@ use Rattle.ptu_audit.specs.declared.answer.{Answer.{Answer}, Answer.TheVariants.
 use Rattle.ptu_report.specs.declared.fault.RunFault.{RunFault}
 use Rattle.ptu_report.specs.declared.fault.RunFault.TheVariants.{Line, Read, Write, OutOfMemory}
 use Rattle.ptu_audit.specs.{declared.answer.AuditCause.{AuditCause}, Audited.{IsAnswer}}
-use Rattle.ptu_audit.specs.Reading.{audit_rules, opening}
+use Rattle.ptu_audit.specs.Reading.{audit_rules, first_reading}
 use Rattle.ptu_run.specs.Run.{status_found, status_of_audit}
 
 pub is_found : (answer : Answer) → (status_found answer ≡ 0) ⊎ (status_found answer ≡ 70)
@@ -16,7 +16,7 @@ is_found (No line cause) = inr refl
 
 -- an audit of a report of which no line is refused, where nothing failed
 pub audit_completes : (capacity : ℕ) (input : List ℕ) (r : Result Answer (RunFault AuditCause)) → IsAnswer capacity input r
-    → (lines : ℕ) × (ending_of audit_rules (opening capacity) (script_lines input) ≡ endings.Whole lines)
+    → (lines : ℕ) × (ending_of audit_rules (first_reading capacity) (script_lines input) ≡ endings.Whole lines)
     → status_of_audit r ≢ 66 → status_of_audit r ≢ 67
     → ((status_of_audit r ≡ 0) ⊎ (status_of_audit r ≡ 70)) ⊎ (status_of_audit r ≡ 71)
 audit_completes capacity input (Ok (Yes granted sent)) exact accepted source sink = inl (inl refl)

@@ -6,7 +6,7 @@ use Rattle.ptu_outside.specs.{declared.endpoint.Endpoint.{Endpoint}, Handing.{Ha
 use Rattle.ptu_outside.specs.Telling.{IfTold}
 use Rattle.ptu_config.specs.{declared.key.Key.{Key}, Rules.{Value}}
 use Rattle.ptu_config.specs.{declared.refusal.RefusalLine.{RefusalLine}, Reading.{HasTakenSome}}
-use Rattle.ptu_config.specs.Refusals.{refusal_text}
+use Rattle.ptu_config.specs.Refusals.{setting_refusal_text}
 use Rattle.ptu_rounds.specs.declared.fault.DaemonFault.{DaemonFault}
 use Rattle.ptu_rounds.specs.declared.fault.DaemonFault.TheVariants.{Open, Write, OutOfMemory}
 use Rattle.ptu_rounds.specs.Opening.{OpenedAt}
@@ -195,7 +195,7 @@ module _ {A K H : Type 0} (entries : A → List (Key × Value)) (refusal : List 
 
   -- they are refused
   pub ran_refused : (line : RefusalLine) → IsRefusedBy entries refusal left left' line → (status : ℕ) → (status ≡ 65) ⊎ (status ≡ 67) ⊎ (status ≡ 71)
-      → (status ≡ 65 → HasPut written handed old new (refusal_text line ∷ [])) → (status ≡ 67 → HasPutFront written handed old new (refusal_text line))
+      → (status ≡ 65 → HasPut written handed old new (setting_refusal_text line ∷ [])) → (status ≡ 67 → HasPutFront written handed old new (setting_refusal_text line))
       → (status ≡ 71 → new ≡ old) → host' ≡ host → Ran status
   ran_refused line is status one whole part nothing same = record {
     taken = taken;

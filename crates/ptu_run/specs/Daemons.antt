@@ -9,13 +9,13 @@ use Rattle.ptu_config.specs.{Entries.{gm_entries, slave_entries}, Rounds.{all_ro
 use Rattle.ptu_config.specs.declared.setup_fault.SetupFault.TheVariants.{Refused}
 use Rattle.ptu_config.specs.declared.refusal.RefusalLine.{RefusalLine}
 use Rattle.ptu_config.specs.Reading.{Answers, HasSetUp, HasTakenSome}
-use Rattle.ptu_config.specs.Refusals.{gm_refusal, refusal_text, slave_refusal}
+use Rattle.ptu_config.specs.Refusals.{gm_refusal, setting_refusal_text, slave_refusal}
 use Rattle.ptu_rounds.specs.declared.fault.DaemonFault.{DaemonFault}
 use Rattle.ptu_rounds.specs.declared.fault.DaemonFault.TheVariants.{Open, Write, OutOfMemory}
 use Rattle.ptu_daemon.specs.{Events.{endpoint_of}, Served.{Said, closing_line}, Serving.{HasServed}}
 use Rattle.ptu_daemon.specs.ServingInTwo.{HasServedInTwo}
 use Rattle.ptu_slave_daemon.specs.{Answers.{WasGivenBack, WasOpened}, Happenings.{Selection}}
-use Rattle.ptu_slave_daemon.specs.Lines.{output, texts_of}
+use Rattle.ptu_slave_daemon.specs.Lines.{output, slave_texts}
 use Rattle.ptu_slave_daemon.specs.Served.{HasStopped, HasServed as HasFollowed}
 
 -- the status of what a daemon answers
@@ -51,12 +51,12 @@ module _ {A K H : Type 0} (entries : A → List (Key × Value)) (refusal : List 
     pub done : status ≡ 0 → (settings : A) × HasSettings entries refusal left left' settings × Done settings
     -- 65: the settings are refused, and the one line that says why was written; nothing was opened
     pub refused : status ≡ 65 → (line : RefusalLine) × IsRefusedBy entries refusal left left' line
-        × HasPut written handed old new (refusal_text line ∷ []) × (host' ≡ host)
+        × HasPut written handed old new (setting_refusal_text line ∷ []) × (host' ≡ host)
     -- 66: nothing was opened or written
     pub unread : status ≡ 66 → (new ≡ old) × (host' ≡ host)
     -- 67: it was that line that was not written whole, or the output of the daemon
     pub unwritten : status ≡ 67 → ((line : RefusalLine) × IsRefusedBy entries refusal left left' line
-        × HasPutFront written handed old new (refusal_text line) × (host' ≡ host))
+        × HasPutFront written handed old new (setting_refusal_text line) × (host' ≡ host))
         ⊎ ((settings : A) × HasSettings entries refusal left left' settings × Part settings)
     -- 69: there are settings, and nothing was written
     pub unopened : status ≡ 69 → (settings : A) × HasSettings entries refusal left left' settings × (new ≡ old)
@@ -120,7 +120,7 @@ module _ {K P C : Type 0} (ports : Ports P) (clocks : Clocks C) (written : K →
   -- a front of an output of its form was written: selections, and the closing line with the rounds of the settings
   abbrev pub WroteLines : SlaveSettings → Type 0
   WroteLines settings = (selections : List Selection) × (sent : ℕ) × (failed : ℕ)
-      × HasPutPart written handed old new (texts_of (output (all_slave_rounds settings) selections sent failed))
+      × HasPutPart written handed old new (slave_texts (output (all_slave_rounds settings) selections sent failed))
 
   -- the slave ran so until the sink failed
   abbrev pub FollowedInPart : SlaveSettings → Type 0

@@ -12,15 +12,15 @@ use Rattle.ptu_report_lines.specs.declared.report_line.ReportLine.TheVariants.{E
 use Rattle.ptu_world.specs.{World.{Stock}, Report.{course_opening, report, report_lines, rules}}
 use Rattle.ptu_lab.specs.Load.{summary}
 use Rattle.ptu_show.specs.Joined.{join_rules, joined_ending, joined_lines}
-use Rattle.ptu_pool_run.specs.Poured.{end_of, poured_texts}
+use Rattle.ptu_pool_run.specs.Poured.{pool_ending, poured_texts}
 use Rattle.ptu_pool_run.specs.Reading as pools
 use Rattle.ptu_show.specs.Shown.{show_rules, shown_ending, shown_lines}
 use Rattle.ptu_report.specs.Rules.{ending_of, texts_of}
 use Rattle.ptu_lines.specs.Script.{script_lines}
 use Rattle.ptu_audit.specs.declared.answer.{Answer.{Answer}, Answer.TheVariants.{Yes, No}}
 use Rattle.ptu_audit.specs.declared.answer.AuditCause.{AuditCause}
-use Rattle.ptu_audit.specs.Audited.{AnswerIsWritten, IsAnswer, IsKept}
-use Rattle.ptu_audit.specs.Reading.{audit_rules, opening}
+use Rattle.ptu_audit.specs.Audited.{AnswerIsWritten, IsAnswer, IsAuditKept}
+use Rattle.ptu_audit.specs.Reading.{audit_rules, first_reading}
 use Rattle.ptu_config.specs.Refusals.{gm_refusal, slave_refusal}
 use Rattle.ptu_words.specs.declared.command.Command.{Command}
 use Rattle.ptu_words.specs.declared.command.Command.TheVariants.{Replay, Show, Load, Serve, Slave, Join, Audit, Pools}
@@ -97,7 +97,7 @@ ends_whole stock Serve input = true
 ends_whole stock Slave input = true
 ends_whole stock Join input = is_whole (joined_ending input)
 ends_whole stock (Audit capacity) input = true
-ends_whole stock Pools input = is_whole (end_of input)
+ends_whole stock Pools input = is_whole (pool_ending input)
 
 -- no line of the input is refused, and neither are settings
 abbrev pub IsAccepted : Stock → Command → List ℕ → Type 0
@@ -108,7 +108,7 @@ IsAccepted stock Serve input = gm_refusal input ≡ None
 IsAccepted stock Slave input = slave_refusal stock.flags stock.gaps input ≡ None
 IsAccepted stock Join input = ends_whole stock Join input ≡ true
 IsAccepted stock (Audit capacity) input =
-    (lines : ℕ) × (ending_of audit_rules (opening capacity) (script_lines input) ≡ Whole lines)
+    (lines : ℕ) × (ending_of audit_rules (first_reading capacity) (script_lines input) ≡ Whole lines)
 IsAccepted stock Pools input = ends_whole stock Pools input ≡ true
 
 -- the statuses that a command ends with of which nothing failed and nothing is refused
@@ -167,7 +167,7 @@ module _ {K : Type 0} (written : K → Option (List ℕ)) (handed : K → Option
   HasReadAll Slave left left' = ⊥
   HasReadAll Join left left' = HasReportedAllRead written handed old new join_rules [] left left'
   HasReadAll (Audit capacity) left left' = ⊥
-  HasReadAll Pools left left' = HasReportedAllRead written handed old new pools.rules pools.opening left left'
+  HasReadAll Pools left left' = HasReportedAllRead written handed old new pools.pool_rules pools.none_told left left'
 
 module _ {K : Type 0} (written : K → Option (List ℕ)) (handed : K → Option (List (List ℕ))) (old new : K) where
   -- a load of so many clients wrote its one line and read nothing, or it stopped before that line was whole: the sink failed,
@@ -179,21 +179,21 @@ module _ {K : Type 0} (written : K → Option (List ℕ)) (handed : K → Option
     pub line : status ≡ 0 → written new ≡ append_known (written old) (summary number)
     pub front : HasPutPart written handed old new (summary number ∷ [])
 
-  -- an audit with this opening capacity ended with the status of an answer
+  -- an audit with this first_reading capacity ended with the status of an answer
   pub record HasAudited {H : Type 0} (host host' : H) (left left' : Option (List ℕ)) (capacity status : ℕ) : Type 0 where
     pub answer : Result Answer (RunFault AuditCause)
     pub status_is : status ≡ status_of_audit answer
     -- the answer is that to all lines of the report, or names the first that is refused
     pub exact : (input : List ℕ) → left ≡ Some input → IsAnswer capacity input answer
     -- it is yes exactly where the report is sound, and then each grandmaster kept its promises
-    pub promises : (input : List ℕ) → left ≡ Some input → IsKept capacity input answer
+    pub promises : (input : List ℕ) → left ≡ Some input → IsAuditKept capacity input answer
     -- it was written, by one line
     pub line : (input : List ℕ) → left ≡ Some input → AnswerIsWritten written handed old new answer
     -- a report of which no line is refused was read to its end
     pub read_whole : OnOk answer (IsAtEnd left')
     -- whatever is answered, what was written is a front of the output
     pub front : (input : List ℕ) → left ≡ Some input
-        → HasPutPart written handed old new (texts_of audit_rules (opening capacity) (script_lines input))
+        → HasPutPart written handed old new (texts_of audit_rules (first_reading capacity) (script_lines input))
     -- where the source failed, that is nothing
-    pub all_read : status ≡ 66 → HasReportedAllRead written handed old new audit_rules (opening capacity) left left'
+    pub all_read : status ≡ 66 → HasReportedAllRead written handed old new audit_rules (first_reading capacity) left left'
     pub unused : host' ≡ host

@@ -2,7 +2,7 @@
 
 ghost use Rattle.std.specs.Prelude.{◌≡◌, map, Contains};
 ghost use Rattle.ptu_judges.specs.Boxes.{IsFreshStock};
-ghost use Rattle.ptu_words.specs.CommandLine.{IsRefused};
+ghost use Rattle.ptu_words.specs.CommandLine.{AreWordsRefused};
 ghost use Rattle.ptu_run.specs.Run.{statuses};
 
 use crate::running::run;
@@ -35,7 +35,7 @@ where
     requires stock { IsFreshStock held stock }
     ensures statuses { Contains statuses result }
     // 64 is answered only where the command line does not match the words.
-    ensures usage { result ≡ USAGE → IsRefused (map (λ w. w.now) words.now) }
+    ensures usage { result ≡ USAGE → AreWordsRefused (map (λ w. w.now) words.now) }
 {
     let Ok(mut blocks) = BufWriter::with_capacity(rt.alloc(), BLOCK, output) else {
         return OUT_OF_MEMORY;

@@ -4,7 +4,7 @@ ghost use Rattle.std.specs.Prelude.{◌≡◌, ◌≢◌, ◌⊎◌, ◌∷◌, 
 ghost use Rattle.ptu_outside.specs.{Faults.{HasRisen}, Handing.{HasPut, HasPutFront}};
 ghost use Rattle.ptu_judges.specs.Boxes.{IsFreshStock};
 ghost use Rattle.ptu_report.specs.Runs.{IsReadWithin};
-ghost use Rattle.ptu_config.specs.{Limits.{IsGmInRange}, Refusals.{refusal_text}};
+ghost use Rattle.ptu_config.specs.{Limits.{IsGmInRange}, Refusals.{setting_refusal_text}};
 ghost use Rattle.ptu_daemon.specs.Answers.{HasAnswered};
 ghost use Rattle.ptu_run.specs.{Answers.{HasEnded}, Daemons.{HasRunServe, HasRunSlave, IsServed}};
 
@@ -24,9 +24,9 @@ use std::thread::Threads;
 fn write_refusal<K: Sink>(alloc: Global, line: RefusalLine, sink: &mut K) -> u8
     ensures statuses { (result ≡ BAD_LINE) ⊎ (result ≡ SINK_FAULT) ⊎ (result ≡ OUT_OF_MEMORY) }
     ensures whole { result ≡ BAD_LINE
-        → HasPut K.written K.handed sink.old sink.new (refusal_text line ∷ []) }
+        → HasPut K.written K.handed sink.old sink.new (setting_refusal_text line ∷ []) }
     ensures part { result ≡ SINK_FAULT
-        → HasPutFront K.written K.handed sink.old sink.new (refusal_text line) }
+        → HasPutFront K.written K.handed sink.old sink.new (setting_refusal_text line) }
     ensures nothing { result ≡ OUT_OF_MEMORY → sink.new ≡ sink.old }
     ensures fault { result ≡ SINK_FAULT → HasRisen (K.faults sink.old) (K.faults sink.new) }
     ensures still { result ≢ SINK_FAULT → K.faults sink.new ≡ K.faults sink.old }

@@ -6,7 +6,7 @@ ghost use Rattle.ptu_judges.specs.Boxes.{IsFreshStock};
 ghost use Rattle.ptu_report.specs.Runs.{IsReadWithin};
 ghost use Rattle.ptu_lab.specs.{Headline.{KeepsHeadline}, Steps.{stock_of}};
 ghost use Rattle.ptu_pool_run.specs.Promises.{KeepsPools};
-ghost use Rattle.ptu_words.specs.CommandLine.{command_of, IsInRange, IsRefused};
+ghost use Rattle.ptu_words.specs.CommandLine.{words_command_of, IsCommandLineInRange, AreWordsRefused};
 ghost use Rattle.ptu_words.specs.declared.command.Command.{Command};
 ghost use Rattle.ptu_world.specs.Report.{report_lines};
 ghost use Rattle.ptu_run.specs.Daemons.{HasRunServe, HasRunSlave};
@@ -38,7 +38,7 @@ fn run_command<W: Threads + Wait + Sync, S: Source, K: Sink, H: Host>(
     stock: Stock,
 ) -> u8
     requires stock { IsFreshStock held stock }
-    requires range { IsInRange command }
+    requires range { IsCommandLineInRange command }
     ensures output { IsOfLab command → (input : List ℕ) → S.left source.old ≡ Some input
         → HasRunUnlessFailed K.written K.handed sink.old sink.new
         (stock_of stock.flags.items stock.gaps.items) command input (S.left source.new) result
@@ -98,12 +98,12 @@ pub fn run<W: AllocGlobal + Threads + Wait + Sync, S: Source, K: Sink, H: Host>(
 
     // Words that the command line does not match, by the meaning that clap gives it, are answered
     // so, and then nothing was read or written.
-    ensures words { AreWordsAnswered (IsRefused (map (λ w. w.now) words.now)) result
+    ensures words { AreWordsAnswered (AreWordsRefused (map (λ w. w.now) words.now)) result
         ((source.new ≡ source.old) × (sink.new ≡ sink.old) × (host.new ≡ host.old)) }
 
     // The whole output of the command that the words ask for was written, and the status says how
     // it ends: where neither side failed and memory was found,
-    ensures output { (command : Command) → command_of (map (λ w. w.now) words.now) ≡ Some command
+    ensures output { (command : Command) → words_command_of (map (λ w. w.now) words.now) ≡ Some command
         → IsOfLab command → (input : List ℕ) → S.left source.old ≡ Some input
         → (HasRisen (S.faults source.old) (S.faults source.new) → ⊥)
         → (HasRisen (K.faults sink.old) (K.faults sink.new) → ⊥) → result ≢ OUT_OF_MEMORY
@@ -111,25 +111,25 @@ pub fn run<W: AllocGlobal + Threads + Wait + Sync, S: Source, K: Sink, H: Host>(
         (stock_of stock.flags.items stock.gaps.items) command input (S.left source.new) result }
     // and wherever 0 or 65 is answered, whatever the counts did.
     ensures answered { (result ≡ 0) ⊎ (result ≡ BAD_LINE)
-        → (command : Command) → command_of (map (λ w. w.now) words.now) ≡ Some command
+        → (command : Command) → words_command_of (map (λ w. w.now) words.now) ≡ Some command
         → IsOfLab command → (input : List ℕ) → S.left source.old ≡ Some input
         → HasRun K.written K.handed sink.old sink.new
         (stock_of stock.flags.items stock.gaps.items) command input (S.left source.new) result }
 
     // A load writes its one line, whatever the source is, which it does not read.
     ensures loaded { (number : ℕ)
-        → command_of (map (λ w. w.now) words.now) ≡ Some (Command.Load number)
+        → words_command_of (map (λ w. w.now) words.now) ≡ Some (Command.Load number)
         → HasLoaded K.written K.handed sink.old sink.new source.old source.new number result }
 
     // An audit answers exactly what the report that is read comes to, by one line. It is yes
     // exactly where the report is sound, and then its grandmasters kept their promises.
     ensures audited { (capacity : ℕ)
-        → command_of (map (λ w. w.now) words.now) ≡ Some (Command.Audit capacity)
+        → words_command_of (map (λ w. w.now) words.now) ≡ Some (Command.Audit capacity)
         → HasAudited K.written K.handed sink.old sink.new host.old host.new
         (S.left source.old) (S.left source.new) capacity result }
     // No other word says that a promise was not kept.
     ensures broken { result ≡ BROKEN_PROMISE → (capacity : ℕ)
-        × (command_of (map (λ w. w.now) words.now) ≡ Some (Command.Audit capacity)) }
+        × (words_command_of (map (λ w. w.now) words.now) ≡ Some (Command.Audit capacity)) }
 
     // The headline, of the script that is read,
     ensures headline { (script : List ℕ) → S.left source.old ≡ Some script
@@ -137,7 +137,7 @@ pub fn run<W: AllocGlobal + Threads + Wait + Sync, S: Source, K: Sink, H: Host>(
     // and the status is 0 exactly where its last line is `end`; then the source was read to its
     // end.
     ensures status { (result ≡ 0) ⊎ (result ≡ BAD_LINE)
-        → command_of (map (λ w. w.now) words.now) ≡ Some Command.Replay
+        → words_command_of (map (λ w. w.now) words.now) ≡ Some Command.Replay
         → (script : List ℕ) → S.left source.old ≡ Some script
         → IsStatusOf (report_lines (stock_of stock.flags.items stock.gaps.items) script)
         (S.left source.new) result }
@@ -149,31 +149,31 @@ pub fn run<W: AllocGlobal + Threads + Wait + Sync, S: Source, K: Sink, H: Host>(
 
     // The word `serve`: the settings that the source has left are refused by one line, or a
     // grandmaster of these is served over the host, whatever its ports do, and its line written.
-    ensures served { command_of (map (λ w. w.now) words.now) ≡ Some Command.Serve
+    ensures served { words_command_of (map (λ w. w.now) words.now) ≡ Some Command.Serve
         → HasRunServe H.P.Port H.C.Clock K.written K.handed sink.old sink.new
         (H.opening host.old) (H.back host.new) (H.opened_at host.new)
         (S.left source.old) (S.left source.new) host.old host.new result }
     // The word `slave`: likewise, with as many judges as the stock has.
-    ensures followed { command_of (map (λ w. w.now) words.now) ≡ Some Command.Slave
+    ensures followed { words_command_of (map (λ w. w.now) words.now) ≡ Some Command.Slave
         → HasRunSlave H.P.Port H.C.Clock K.written K.handed sink.old sink.new
         (H.opening host.old) (H.back host.new) (H.opened_at host.new)
         (length stock.flags.items) (length stock.gaps.items)
         (S.left source.old) (S.left source.new) host.old host.new result }
     // The words for which lines are read and written, but for an audit, leave the host as it is.
-    ensures unused { (command : Command) → command_of (map (λ w. w.now) words.now) ≡ Some command
+    ensures unused { (command : Command) → words_command_of (map (λ w. w.now) words.now) ≡ Some command
         → IsOfLab command → host.new ≡ host.old }
 
     // A fault is answered exactly where there was one, and what was written is a front of the
     // output, whatever is answered.
     ensures faults { AreFaultsAnswered result (S.faults source.old) (S.faults source.new)
         (K.faults sink.old) (K.faults sink.new) (H.faults host.old) (H.faults host.new) }
-    ensures front { (command : Command) → command_of (map (λ w. w.now) words.now) ≡ Some command
+    ensures front { (command : Command) → words_command_of (map (λ w. w.now) words.now) ≡ Some command
         → IsOfLab command → (input : List ℕ) → S.left source.old ≡ Some input
         → HasPutPart K.written K.handed sink.old sink.new
         (output_of (stock_of stock.flags.items stock.gaps.items) command input) }
     // Where nothing failed and nothing is refused, the answer is 0 (with 70 beside it for an
     // audit), or no memory was found.
-    ensures complete { (command : Command) → command_of (map (λ w. w.now) words.now) ≡ Some command
+    ensures complete { (command : Command) → words_command_of (map (λ w. w.now) words.now) ≡ Some command
         → (input : List ℕ) → S.left source.old ≡ Some input
         → IsAccepted (stock_of stock.flags.items stock.gaps.items) command input
         → (HasRisen (S.faults source.old) (S.faults source.new) → ⊥)
@@ -182,7 +182,7 @@ pub fn run<W: AllocGlobal + Threads + Wait + Sync, S: Source, K: Sink, H: Host>(
         → IsWholeStatus command result ⊎ (result ≡ OUT_OF_MEMORY) }
     // Where the source failed, that is all that belongs to the lines that were read whole.
     ensures all_read { result ≡ SOURCE_FAULT
-        → (command : Command) → command_of (map (λ w. w.now) words.now) ≡ Some command
+        → (command : Command) → words_command_of (map (λ w. w.now) words.now) ≡ Some command
         → IsOfLab command → HasReadAll K.written K.handed sink.old sink.new
         (stock_of stock.flags.items stock.gaps.items) command
         (S.left source.old) (S.left source.new) }

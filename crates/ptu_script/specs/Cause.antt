@@ -5,18 +5,18 @@ use Rattle.ptu_lines.specs.declared.cause.LineCause.TheVariants as lines
 use Rattle.ptu_script.specs.declared.cause.Cause.{Cause}
 use Rattle.ptu_script.specs.declared.cause.Cause.TheVariants.{Size, Long, Text, Word, Count, Field, Order, Node, Full, Number, Stock}
 
-abbrev pub text_of : Cause → List ℕ
-text_of Size = codes "size"
-text_of Long = codes "long"
-text_of Text = codes "text"
-text_of Word = codes "word"
-text_of Count = codes "count"
-text_of (Field number) = codes "field " ++ decimal number
-text_of Order = codes "order"
-text_of Node = codes "node"
-text_of Full = codes "full"
-text_of Number = codes "number"
-text_of Stock = codes "stock"
+abbrev pub cause_text : Cause → List ℕ
+cause_text Size = codes "size"
+cause_text Long = codes "long"
+cause_text Text = codes "text"
+cause_text Word = codes "word"
+cause_text Count = codes "count"
+cause_text (Field number) = codes "field " ++ decimal number
+cause_text Order = codes "order"
+cause_text Node = codes "node"
+cause_text Full = codes "full"
+cause_text Number = codes "number"
+cause_text Stock = codes "stock"
 
 -- the cause of the same name
 abbrev pub cause_of_line : LineCause → Cause

@@ -39,10 +39,10 @@ IsActWithin (acts.Capacity capacity) = IsCapacity capacity
 IsActWithin (acts.Judge master rule) = IsNamed rule
 IsActWithin _ = Unit {0}
 
-abbrev pub IsWithinLimits : Command → Type 0
-IsWithinLimits (Grandmaster setup) = IsGrandmasterWithin setup
-IsWithinLimits (Slave setup) = IsSlaveWithin setup
-IsWithinLimits (Master slave ip priority rule) = IsNamed rule
-IsWithinLimits (Deliver at number) = Unit {0}
-IsWithinLimits (Event at node (acts.Receive from octets)) = length octets ≤ 2048
-IsWithinLimits (Event at node act) = IsActWithin act
+abbrev pub IsCommandInRange : Command → Type 0
+IsCommandInRange (Grandmaster setup) = IsGrandmasterWithin setup
+IsCommandInRange (Slave setup) = IsSlaveWithin setup
+IsCommandInRange (Master slave ip priority rule) = IsNamed rule
+IsCommandInRange (Deliver at number) = Unit {0}
+IsCommandInRange (Event at node (acts.Receive from octets)) = length octets ≤ 2048
+IsCommandInRange (Event at node act) = IsActWithin act

@@ -1,7 +1,7 @@
 //! Why a line of a script is refused, with the words that a report uses.
 
 ghost use Rattle.std.specs.Prelude.{◌≡◌, ◌≤◌, ◌+◌, ◌++◌, Some};
-ghost use Rattle.ptu_script.specs.Cause.{text_of, cause_of_line};
+ghost use Rattle.ptu_script.specs.Cause.{cause_text, cause_of_line};
 
 use ptu_lines::LineCause;
 use ptu_writing::{LinePart, LineText};
@@ -36,7 +36,7 @@ pub enum Cause {
 }
 
 impl LinePart for Cause {
-    ghost text = { text_of };
+    ghost text = { cause_text };
 
     ghost most = { λ _. 9 };
 
@@ -61,7 +61,7 @@ impl LinePart for Cause {
 }
 
 impl fmt::Display for Cause {
-    ghost output = { λ cause. Some (text_of cause) };
+    ghost output = { λ cause. Some (cause_text cause) };
 
     fn fmt<W: fmt::Write>(&self, f: &mut fmt::Formatter<W>) -> fmt::Result {
         match self {

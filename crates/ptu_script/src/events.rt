@@ -1,6 +1,6 @@
 //! The lines that are events.
 ghost use Rattle.std.specs.Prelude.{◌≡◌, IfOk};
-ghost use Rattle.ptu_script.specs.{Command.{fields_in, handed_in}, Limits.{IsWithinLimits}};
+ghost use Rattle.ptu_script.specs.{Command.{fields_in, handed_in}, Limits.{IsCommandInRange}};
 ghost use Rattle.ptu_script.specs.declared.verb.Verb.TheVariants as verbs;
 
 use crate::act::Act;
@@ -21,7 +21,7 @@ use ptu_units::sizes::LONGEST_DATAGRAM;
 #[tactic(auto, unfolding(crate::specs::Command::fields_in))]
 pub fn deliver<'a>(line: &WordList) -> Result<Command<'a>, Cause>
     ensures value { result ≡ fields_in verbs.Deliver line.now }
-    ensures within { IfOk result IsWithinLimits }
+    ensures within { IfOk result IsCommandInRange }
 {
     let at = moment_field(line, 2)?;
     let number = number_field(line, 3, 0, u64::MAX)?;
@@ -35,7 +35,7 @@ pub fn deliver<'a>(line: &WordList) -> Result<Command<'a>, Cause>
 #[tactic(auto, unfolding(crate::specs::Command::fields_in))]
 pub fn turn<'a>(line: &WordList) -> Result<Command<'a>, Cause>
     ensures value { result ≡ fields_in verbs.Turn line.now }
-    ensures within { IfOk result IsWithinLimits }
+    ensures within { IfOk result IsCommandInRange }
 {
     let at = moment_field(line, 2)?;
     let node = ip_field(line, 3)?;
@@ -53,7 +53,7 @@ pub fn turn<'a>(line: &WordList) -> Result<Command<'a>, Cause>
 #[tactic(auto, unfolding(crate::specs::Command::fields_in))]
 pub fn tick<'a>(line: &WordList) -> Result<Command<'a>, Cause>
     ensures value { result ≡ fields_in verbs.Tick line.now }
-    ensures within { IfOk result IsWithinLimits }
+    ensures within { IfOk result IsCommandInRange }
 {
     let at = moment_field(line, 2)?;
     let node = ip_field(line, 3)?;
@@ -68,7 +68,7 @@ pub fn tick<'a>(line: &WordList) -> Result<Command<'a>, Cause>
 #[tactic(auto, unfolding(crate::specs::Command::fields_in))]
 pub fn flag<'a>(line: &WordList) -> Result<Command<'a>, Cause>
     ensures value { result ≡ fields_in verbs.Flag line.now }
-    ensures within { IfOk result IsWithinLimits }
+    ensures within { IfOk result IsCommandInRange }
 {
     let at = moment_field(line, 2)?;
     let node = ip_field(line, 3)?;
@@ -85,7 +85,7 @@ pub fn flag<'a>(line: &WordList) -> Result<Command<'a>, Cause>
 #[tactic(auto, unfolding(crate::specs::Command::fields_in))]
 pub fn judge<'a>(line: &WordList) -> Result<Command<'a>, Cause>
     ensures value { result ≡ fields_in verbs.Judge line.now }
-    ensures within { IfOk result IsWithinLimits }
+    ensures within { IfOk result IsCommandInRange }
 {
     let at = moment_field(line, 2)?;
     let node = ip_field(line, 3)?;
@@ -102,7 +102,7 @@ pub fn judge<'a>(line: &WordList) -> Result<Command<'a>, Cause>
 #[tactic(auto, unfolding(crate::specs::Command::fields_in))]
 pub fn stop<'a>(line: &WordList) -> Result<Command<'a>, Cause>
     ensures value { result ≡ fields_in verbs.Stop line.now }
-    ensures within { IfOk result IsWithinLimits }
+    ensures within { IfOk result IsCommandInRange }
 {
     let at = moment_field(line, 2)?;
     let node = ip_field(line, 3)?;
@@ -117,7 +117,7 @@ pub fn stop<'a>(line: &WordList) -> Result<Command<'a>, Cause>
 #[tactic(auto, unfolding(crate::specs::Command::fields_in))]
 pub fn class<'a>(line: &WordList) -> Result<Command<'a>, Cause>
     ensures value { result ≡ fields_in verbs.Class line.now }
-    ensures within { IfOk result IsWithinLimits }
+    ensures within { IfOk result IsCommandInRange }
 {
     let node = ip_field(line, 2)?;
     let class = octet_field(line, 3)?;
@@ -136,7 +136,7 @@ pub fn class<'a>(line: &WordList) -> Result<Command<'a>, Cause>
 #[tactic(auto, unfolding(crate::specs::Command::fields_in))]
 pub fn capacity<'a>(line: &WordList) -> Result<Command<'a>, Cause>
     ensures value { result ≡ fields_in verbs.Capacity line.now }
-    ensures within { IfOk result IsWithinLimits }
+    ensures within { IfOk result IsCommandInRange }
 {
     let at = moment_field(line, 2)?;
     let node = ip_field(line, 3)?;
@@ -163,7 +163,7 @@ fn handed(line: &WordList) -> Result<(Moment, u32, u32), Cause>
 #[tactic(auto, unfolding(crate::specs::Command::fields_in))]
 pub fn rx<'a>(line: &WordList, room: &'a mut [u8; LONGEST_DATAGRAM]) -> Result<Command<'a>, Cause>
     ensures value { result ≡ fields_in verbs.Rx line.now }
-    ensures within { IfOk result IsWithinLimits }
+    ensures within { IfOk result IsCommandInRange }
 {
     let (at, node, from) = handed(line)?;
     let octets = octets_field(line, 5, room)?;

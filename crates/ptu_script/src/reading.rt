@@ -2,7 +2,7 @@
 
 ghost use Rattle.std.specs.Prelude.{◌≡◌, ◌≢◌, IfOk, IfSome, unwrap_or, []};
 ghost use Rattle.ptu_script.specs.Command.{fields_in, has_count, is_comment, command_by, command_of};
-ghost use Rattle.ptu_script.specs.{Limits.{IsWithinLimits}, Verb.{verb_named, counts_of}};
+ghost use Rattle.ptu_script.specs.{Limits.{IsCommandInRange}, Verb.{verb_named, counts_of}};
 ghost use Rattle.ptu_script.specs.declared.verb.Verb.TheVariants.{Rx};
 ghost use Rattle.ptu_lines.specs.Words.{word_of};
 
@@ -21,7 +21,7 @@ fn fields<'a>(
     room: &'a mut [u8; LONGEST_DATAGRAM],
 ) -> Result<Command<'a>, Cause>
     ensures value { result ≡ fields_in verb line.now }
-    ensures within { IfOk result IsWithinLimits }
+    ensures within { IfOk result IsCommandInRange }
 {
     match verb {
         Verb::Gm => gm(line),
@@ -57,7 +57,7 @@ fn is_counted(verb: Verb, line: &WordList) -> bool
 fn command<'a>(line: &[u8], room: &'a mut [u8; LONGEST_DATAGRAM]) -> Result<Command<'a>, Cause>
     ensures value { result
         ≡ command_by (verb_named (unwrap_or (word_of line.now 1) [])) line.now }
-    ensures within { IfOk result IsWithinLimits }
+    ensures within { IfOk result IsCommandInRange }
 {
     let words = WordList::new(line);
     match Verb::of(words.word(1).unwrap_or(&[])) {
@@ -81,7 +81,7 @@ pub fn read_command<'a>(
     room: &'a mut [u8; LONGEST_DATAGRAM],
 ) -> Result<Option<Command<'a>>, Cause>
     ensures value { result ≡ command_of line.now }
-    ensures within { IfOk result (λ command. IfSome command IsWithinLimits) }
+    ensures within { IfOk result (λ command. IfSome command IsCommandInRange) }
 {
     if matches!(line, [] | [b'#', ..]) {
         return Ok(None);

@@ -2,7 +2,7 @@
 ghost use Rattle.std.specs.Prelude.{◌≡◌, IfOk};
 ghost use Rattle.ptu_units.specs.Limits.{IsTimeout};
 ghost use Rattle.ptu_script.specs.Command.{grandmaster_in, delay_timeout_in, slave_in, fields_in};
-ghost use Rattle.ptu_script.specs.Limits.{IsGrandmasterWithin, IsSlaveWithin, IsWithinLimits};
+ghost use Rattle.ptu_script.specs.Limits.{IsGrandmasterWithin, IsSlaveWithin, IsCommandInRange};
 ghost use Rattle.ptu_script.specs.declared.verb.Verb.TheVariants as verbs;
 
 use crate::cause::Cause;
@@ -99,7 +99,7 @@ fn slave(line: &WordList) -> Result<SlaveSetup, Cause>
 #[tactic(auto, unfolding(crate::specs::Command::fields_in))]
 pub fn gm<'a>(line: &WordList) -> Result<Command<'a>, Cause>
     ensures value { result ≡ fields_in verbs.Gm line.now }
-    ensures within { IfOk result IsWithinLimits }
+    ensures within { IfOk result IsCommandInRange }
 {
     Ok(Command::Grandmaster(grandmaster(line)?))
 }
@@ -111,7 +111,7 @@ pub fn gm<'a>(line: &WordList) -> Result<Command<'a>, Cause>
 #[tactic(auto, unfolding(crate::specs::Command::fields_in))]
 pub fn new_slave<'a>(line: &WordList) -> Result<Command<'a>, Cause>
     ensures value { result ≡ fields_in verbs.Slave line.now }
-    ensures within { IfOk result IsWithinLimits }
+    ensures within { IfOk result IsCommandInRange }
 {
     Ok(Command::Slave(slave(line)?))
 }
@@ -124,7 +124,7 @@ pub fn new_slave<'a>(line: &WordList) -> Result<Command<'a>, Cause>
 #[tactic(auto, unfolding(crate::specs::Command::fields_in))]
 pub fn master<'a>(line: &WordList) -> Result<Command<'a>, Cause>
     ensures value { result ≡ fields_in verbs.Master line.now }
-    ensures within { IfOk result IsWithinLimits }
+    ensures within { IfOk result IsCommandInRange }
 {
     let slave = ip_field(line, 2)?;
     let ip = ip_field(line, 3)?;

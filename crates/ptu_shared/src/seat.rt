@@ -22,9 +22,9 @@ pub struct Seat<G: Ledger, R: Ledger> {
 
 impl<G: Ledger, R: Ledger> Model for Seat<G, R> {
     ghost use Rattle.std.specs.Prelude.{◌≡◌, ◌+◌, ◌^◌};
-    ghost use Rattle.ptu_shared.specs.Seats.{Counts};
+    ghost use Rattle.ptu_shared.specs.Seats.{SeatCounts};
 
-    ghost Value = { Counts };
+    ghost Value = { SeatCounts };
 
     ghost view = { λ s. record { granted = s.granted; refused = s.refused } };
 

@@ -7,7 +7,7 @@ use Rattle.ptu_units.specs.declared.stamp.Stamp.{Stamp}
 use Rattle.ptu_header.specs.declared.header.Header.{Header}
 use Rattle.ptu_messages.specs.declared.message.Body.TheVariants as bodies
 use Rattle.ptu_show.specs.declared.half.{Half.{Half}, Part.TheVariants.{Sync, FollowUp}}
-use Rattle.ptu_show.specs.{Halves.{is_other, key_of, same_key, sync_of}, Joins.{JoinsWith, partner}}
+use Rattle.ptu_show.specs.{Halves.{is_other, key_of, same_key, joined_sync}, Joins.{JoinsWith, partner}}
 
 nothing : {A : Type 0} {x : A} → None ≡ Some x → ⊥
 nothing e = true≢false (sym (ap is_some e))
@@ -51,9 +51,9 @@ joins halves half before r =
     ap (λ l. partner l half) r.stands ∙ behind r.between r.earlier half before r.apart r.own r.waits r.other
 
 pub undone : (header : Header) (sent stamp : Stamp) → header.correction ≡ pos 0
-    → sync_of (record { part = Sync; header = record header { flags = header.flags + 2 ^ 9 }; stamp = sent }) (record { part = FollowUp; header = record header { message_type = 8 }; stamp = stamp })
+    → joined_sync (record { part = Sync; header = record header { flags = header.flags + 2 ^ 9 }; stamp = sent }) (record { part = FollowUp; header = record header { message_type = 8 }; stamp = stamp })
     ≡ Some (record { header = header; body = bodies.Sync stamp })
 undone header sent stamp none =
     let back : (header.flags + 2 ^ 9) - 2 ^ 9 ≡ header.flags = omega arith in
-    ap (λ z. sync_of (record { part = Sync; header = record header { flags = header.flags + 2 ^ 9; correction = z }; stamp = sent }) (record { part = FollowUp; header = record header { message_type = 8; correction = z }; stamp = stamp })) none
+    ap (λ z. joined_sync (record { part = Sync; header = record header { flags = header.flags + 2 ^ 9; correction = z }; stamp = sent }) (record { part = FollowUp; header = record header { message_type = 8; correction = z }; stamp = stamp })) none
     ∙ ap₂ (λ f z. Some (record { header = record header { flags = f; correction = z }; body = bodies.Sync stamp })) back (sym none)

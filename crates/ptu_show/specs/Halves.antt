@@ -63,8 +63,8 @@ is_other FollowUp Sync = true
 is_other FollowUp FollowUp = false
 
 -- a number with a sign that has 64 bits
-abbrev pub fits : ℤ → Bool
-fits z = int_le (negsuc (2 ^ 63 - 1)) z && int_lt z (pos (2 ^ 63))
+abbrev pub fits_correction : ℤ → Bool
+fits_correction z = int_le (negsuc (2 ^ 63 - 1)) z && int_lt z (pos (2 ^ 63))
 
 -- the Sync in one step, of a Sync in two and its Follow_Up, with this correctionField
 abbrev pub sync_with : ℤ → Half → Half → Message
@@ -75,16 +75,16 @@ sync_with correction sync follow_up =
     }
 
 -- it has the sum of both correctionFields; there is none where that sum does not fit its field
-abbrev pub sync_of : Half → Half → Option Message
-sync_of sync follow_up =
-    if fits (sync.header.correction +ℤ follow_up.header.correction)
+abbrev pub joined_sync : Half → Half → Option Message
+joined_sync sync follow_up =
+    if fits_correction (sync.header.correction +ℤ follow_up.header.correction)
     then Some (sync_with (sync.header.correction +ℤ follow_up.header.correction) sync follow_up)
     else None
 
 -- likewise of two halves, the second of which is this part
 abbrev pub joined_by : Part → Half → Half → Option Message
-joined_by FollowUp before half = sync_of before half
-joined_by Sync before half = sync_of half before
+joined_by FollowUp before half = joined_sync before half
+joined_by Sync before half = joined_sync half before
 
 abbrev pub joined : Half → Half → Option Message
 joined before half = joined_by half.part before half

@@ -3,21 +3,21 @@ use Rattle.std.specs.Prelude.{◌≡◌, ℕ, [], ◌∷◌, codes, drop, slice_
 use Rattle.ptu_header.specs.declared.header.Header.{Header}
 use Rattle.ptu_messages.specs.declared.message.Body.TheVariants as bodies
 use Rattle.ptu_messages.specs.declared.message.Message.{Message}
-use Rattle.ptu_messages.specs.Samples.{client, delay_req, grandmaster}
+use Rattle.ptu_messages.specs.Samples.{sample_client, delay_req, grandmaster}
 use Rattle.ptu_report.specs.declared.ending.Ending.TheVariants.{Whole, Refused}
 use Rattle.ptu_lines.specs.declared.cause.LineCause.TheVariants.{Field}
 use Rattle.ptu_show.specs.declared.half.{Half.{Half}, Part.TheVariants.{Sync, FollowUp}}
 use Rattle.ptu_show.specs.{Halves.{half_in, joined, key_of}, Joins.{partner, waiting, waiting_keys}}
 use Rattle.ptu_show.specs.Joined.{joined_ending, joined_output, text_behind}
 
--- a header of this messageType with these flags and this correctionField, from the client
-abbrev pub header_of : ℕ → ℕ → ℤ → Header
-header_of message_type flags correction = record {
+-- a header of this messageType with these flags and this correctionField, from the sample_client
+abbrev pub sample_header : ℕ → ℕ → ℤ → Header
+sample_header message_type flags correction = record {
   message_type = message_type;
   domain = 4;
   flags = flags;
   correction = correction;
-  source = client;
+  source = sample_client;
   sequence = 7;
 }
 
@@ -25,14 +25,14 @@ header_of message_type flags correction = record {
 abbrev pub sync : Half
 sync = record {
   part = Sync;
-  header = header_of 0 0x0600 (pos 768);
+  header = sample_header 0 0x0600 (pos 768);
   stamp = record { seconds = 1; nanos = 0 };
 }
 
 abbrev pub follow_up : Half
 follow_up = record {
   part = FollowUp;
-  header = header_of 8 0x0400 (negsuc 255);
+  header = sample_header 8 0x0400 (negsuc 255);
   stamp = record { seconds = 1; nanos = 300 };
 }
 
@@ -45,7 +45,7 @@ with_correction half z = with_header half (record half.header { correction = z }
 
 -- a Sync in one step at the time of the Follow_Up, with this correctionField
 abbrev pub one_step_with : ℤ → Message
-one_step_with z = record { header = header_of 0 0x0400 z; body = bodies.Sync follow_up.stamp }
+one_step_with z = record { header = sample_header 0 0x0400 z; body = bodies.Sync follow_up.stamp }
 
 -- a Sync of another domain
 abbrev pub elsewhere : Half
@@ -69,7 +69,7 @@ KeysAreApart =
     (partner (elsewhere ∷ []) follow_up ≡ None)
     × (partner (with_header sync (record sync.header { source = grandmaster }) ∷ []) follow_up
     ≡ None)
-    × (partner (with_header sync (record sync.header { source = record client { port = 2 } }) ∷ [])
+    × (partner (with_header sync (record sync.header { source = record sample_client { port = 2 } }) ∷ [])
     follow_up ≡ None)
     × (partner (with_header sync (record sync.header { sequence = 8 }) ∷ []) follow_up ≡ None)
     × (partner (elsewhere ∷ sync ∷ []) follow_up ≡ Some sync)

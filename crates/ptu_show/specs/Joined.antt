@@ -12,7 +12,7 @@ use Rattle.ptu_report.specs.Rules.{Rules, Outcome, Goes, Refuses, ending_of, tex
 use Rattle.ptu_script.specs.Cause.{cause_of_line}
 use Rattle.ptu_show.specs.{declared.half.Half.{Half}, Halves.{half_in, joined}}
 use Rattle.ptu_show.specs.{Joins.{partner, waiting_keys}, Reading.{datagram_in}}
-use Rattle.ptu_show.specs.Shown.{bad_line, numbered, IsRefusedFor}
+use Rattle.ptu_show.specs.Shown.{bad_line, numbered_line, IsRefusedFor}
 
 -- the halves among datagrams, in their order
 abbrev pub halves_of : List (List ℕ) → List Half
@@ -44,7 +44,7 @@ abbrev pub joined_by_line : List (List ℕ) → ℕ → Result (Option (List ℕ
     → Outcome (List (List ℕ)) LineCause
 joined_by_line past number (Ok None) = Goes past []
 joined_by_line past number (Ok (Some octets)) =
-    Goes (octets ∷ past) (numbered number (text_behind (halves_of past) (half_in octets)) ∷ [])
+    Goes (octets ∷ past) (numbered_line number (text_behind (halves_of past) (half_in octets)) ∷ [])
 joined_by_line past number (Err cause) = Refuses cause
 
 abbrev pub join_rules : Rules (List (List ℕ)) LineCause

@@ -10,16 +10,16 @@ use Rattle.ptu_report.specs.Reported.{HasWritten}
 use Rattle.ptu_report.specs.Rules.{Rules, Outcome, Goes, Refuses, ending_of, texts_of}
 use Rattle.ptu_script.specs.declared.cause.Cause.{Cause}
 use Rattle.ptu_script.specs.declared.cause.Cause.TheVariants.{Size, Long, Text, Field}
-use Rattle.ptu_script.specs.Cause.{cause_of_line, text_of}
+use Rattle.ptu_script.specs.Cause.{cause_of_line, cause_text}
 use Rattle.ptu_show.specs.{Datagram.{datagram_text}, Reading.{datagram_in}}
 
 -- a line of output that begins with the number of a line of input
-abbrev pub numbered : ℕ → List ℕ → List ℕ
-numbered number text = decimal number ++ (codes " " ++ (text ++ codes "\n"))
+abbrev pub numbered_line : ℕ → List ℕ → List ℕ
+numbered_line number text = decimal number ++ (codes " " ++ (text ++ codes "\n"))
 
 -- the line that names a line of input as refused
 abbrev pub bad_line : ℕ → Cause → List ℕ
-bad_line number cause = numbered number (codes "bad " ++ text_of cause)
+bad_line number cause = numbered_line number (codes "bad " ++ cause_text cause)
 
 -- the last line of a whole output
 abbrev pub end_line : ℕ → List ℕ
@@ -29,7 +29,7 @@ end_line lines = codes "end " ++ (decimal lines ++ codes "\n")
 -- is refused
 abbrev pub shown_by : ℕ → Result (Option (List ℕ)) LineCause → Outcome (Unit {0}) Cause
 shown_by number (Ok None) = Goes tt []
-shown_by number (Ok (Some octets)) = Goes tt (numbered number (datagram_text octets) ∷ [])
+shown_by number (Ok (Some octets)) = Goes tt (numbered_line number (datagram_text octets) ∷ [])
 shown_by number (Err cause) = Refuses (cause_of_line cause)
 
 abbrev pub show_rules : Rules (Unit {0}) Cause

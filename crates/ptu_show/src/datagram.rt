@@ -5,7 +5,7 @@ ghost use Rattle.std.specs.{Fmt.{decimal}, List.{flat_map}};
 ghost use Rattle.ptu_messages.specs.declared.message.Body.TheVariants as bodies;
 ghost use Rattle.ptu_texts.specs.Texts.{identity_text};
 ghost use Rattle.ptu_show.specs.Datagram.{ask_text, body_text, message_text, stamp_text};
-ghost use Rattle.ptu_show.specs.{Datagram.{tlv_text, type_text}, Shown.{numbered}};
+ghost use Rattle.ptu_show.specs.{Datagram.{tlv_text, type_text}, Shown.{numbered_line}};
 
 use ptu_messages::{AnnounceBody, Body, Message};
 use ptu_texts::{ClockText, IdentityText};
@@ -215,7 +215,7 @@ impl MessageText<'_> {
     /// `OutOfMemory`; a part of the line may stand in the draft then.
     pub fn put_at(&self, number: u64, draft: &mut Draft) -> Result<(), OutOfMemory>
         ensures put { OnOk result (draft.new.text ≡ draft.old.text
-            ++ numbered number (message_text self.now.length self.now.message.now)) }
+            ++ numbered_line number (message_text self.now.length self.now.message.now)) }
         ensures done { draft.new.done ≡ draft.old.done }
     {
         draft.put_line(&self.head(number))?;

@@ -3,7 +3,7 @@
 ghost use Rattle.std.specs.Prelude.{◌≡◌, ◌++◌, ◌∷◌, [], ℕ, List, Some, IfOk, OnOk, OnErr};
 ghost use Rattle.ptu_report.specs.Runs.{HasRunThrough, IfWritten};
 ghost use Rattle.ptu_show.specs.Datagram.{datagram_text};
-ghost use Rattle.ptu_show.specs.Shown.{numbered, shown_lines, show_rules, HasShowCause, HasShown};
+ghost use Rattle.ptu_show.specs.Shown.{numbered_line, shown_lines, show_rules, HasShowCause, HasShown};
 
 use crate::datagram::MessageText;
 use crate::fault::LabFault;
@@ -36,7 +36,7 @@ fn add_datagram(
     texts: &mut Texts,
 ) -> Result<(), OutOfMemory>
     ensures { OnOk result
-        (texts.new ≡ texts.old ++ numbered number (datagram_text bytes.now) ∷ []) }
+        (texts.new ≡ texts.old ++ numbered_line number (datagram_text bytes.now) ∷ []) }
 {
     match read_message(alloc, bytes) {
         Ok(message) => {

@@ -2,7 +2,7 @@
 
 ghost use Rattle.std.specs.Prelude.{◌≡◌, ◌<◌, ◌^◌, true, IfSome};
 ghost use Rattle.ptu_messages.specs.Sent.{IsFixed};
-ghost use Rattle.ptu_show.specs.Halves.{has_two_steps, half_by, is_other, joined, key_of, sync_of};
+ghost use Rattle.ptu_show.specs.Halves.{has_two_steps, half_by, is_other, joined, key_of, joined_sync};
 ghost use Rattle.ptu_show.specs.Waiting.{IsHalf, IsHeaderOf};
 
 use ptu_header::{Header, PortIdentity, flags};
@@ -66,7 +66,7 @@ fn has_two_steps(header: &Header) -> bool
 fn sync_of(sync: &Half, follow_up: &Half) -> Option<Message>
     requires header { IsHeaderOf Part.Sync sync.now.header }
     requires seconds { follow_up.now.stamp.seconds < 2 ^ 48 }
-    ensures sync { result ≡ sync_of sync.now follow_up.now }
+    ensures sync { result ≡ joined_sync sync.now follow_up.now }
     ensures fixed { IfSome result IsFixed }
 {
     let correction = sync

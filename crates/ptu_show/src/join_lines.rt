@@ -2,7 +2,7 @@
 
 ghost use Rattle.std.specs.Prelude.{◌≡◌, ◌++◌, OnOk, codes};
 ghost use Rattle.hex.specs.Hex.{encode_lower};
-ghost use Rattle.ptu_show.specs.{JoinLines.{join_line_text}, Shown.{numbered}};
+ghost use Rattle.ptu_show.specs.{JoinLines.{join_line_text}, Shown.{numbered_line}};
 
 use ptu_script::Cause;
 use ptu_texts::OctetsText;
@@ -68,7 +68,7 @@ impl Text for JoinLine<'_> {
 // Puts the line of a half that joins.
 fn put_pair(number: u64, sync: &OctetsText<'_>, draft: &mut Draft) -> Result<(), OutOfMemory>
     ensures put { OnOk result (draft.new.text
-        ≡ draft.old.text ++ numbered number (codes "pair " ++ encode_lower sync.now.0.now)) }
+        ≡ draft.old.text ++ numbered_line number (codes "pair " ++ encode_lower sync.now.0.now)) }
     ensures done { draft.new.done ≡ draft.old.done }
 {
     let mut line = LineText::new();

@@ -5,7 +5,7 @@ ghost use Rattle.ptu_report.specs.Runs.{HasRunThrough, IfWritten};
 ghost use Rattle.ptu_show.specs.Halves.{half_in, is_other};
 ghost use Rattle.ptu_show.specs.Joined.{half_text, halves_of, join_rules};
 ghost use Rattle.ptu_show.specs.Joined.{joined_lines, text_behind, HasJoined, HasJoinCause};
-ghost use Rattle.ptu_show.specs.{Shown.{numbered}, Waiting.{IsHalf, StandsFor}};
+ghost use Rattle.ptu_show.specs.{Shown.{numbered_line}, Waiting.{IsHalf, StandsFor}};
 
 use crate::fault::JoinFault;
 use crate::half::Half;
@@ -54,7 +54,7 @@ fn add_half(
     requires partner { IfSome partner IsHalf }
     requires other { IfSome partner (λ before. is_other before.part half.now.part ≡ true) }
     ensures { OnOk result
-        (texts.new ≡ texts.old ++ numbered number (half_text half.now partner) ∷ []) }
+        (texts.new ≡ texts.old ++ numbered_line number (half_text half.now partner) ∷ []) }
 {
     let Some(before) = partner else {
         return texts.add_text(&JoinLine::Wait { number });
@@ -82,7 +82,7 @@ fn add_datagram(
     requires means { (past : List (List ℕ)) × StandsFor waiting.old.kept (halves_of past) }
     ensures text { OnOk result ((past : List (List ℕ))
         → StandsFor waiting.old.kept (halves_of past) → texts.new ≡ texts.old
-        ++ numbered number (text_behind (halves_of past) (half_in bytes.now)) ∷ []) }
+        ++ numbered_line number (text_behind (halves_of past) (half_in bytes.now)) ∷ []) }
     ensures stands { OnOk result ((past : List (List ℕ))
         → StandsFor waiting.old.kept (halves_of past)
         → StandsFor waiting.new.kept (halves_of (bytes.now ∷ past))) }

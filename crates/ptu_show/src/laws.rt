@@ -5,7 +5,7 @@ ghost use Rattle.ptu_units.specs.declared.stamp.Stamp.{Stamp};
 ghost use Rattle.ptu_header.specs.declared.header.Header.{Header};
 ghost use Rattle.ptu_messages.specs.declared.message.Body.TheVariants as bodies;
 ghost use Rattle.ptu_show.specs.declared.half.Half.{Half};
-ghost use Rattle.ptu_show.specs.{declared.half.Part.TheVariants.{Sync, FollowUp}, Halves.{sync_of}};
+ghost use Rattle.ptu_show.specs.{declared.half.Part.TheVariants.{Sync, FollowUp}, Halves.{joined_sync}};
 ghost use Rattle.ptu_show.specs.Joins.{partner, JoinsWith};
 ghost use Rattle.ptu_show.specs.JoinSamples.{HalvesAreJoined, HalvesAreSpelled, HalvesJoin};
 ghost use Rattle.ptu_show.specs.JoinSamples.{HalvesWait, InputsAreJoined, KeysAreApart};
@@ -39,7 +39,7 @@ pub fn joining_is_relation()
 /// A Sync in one step without a correction that was sent in two, as it is with twoStepFlag and then
 /// as a Follow_Up of the time, comes back.
 pub fn two_steps_are_undone()
-    ensures { (header : Header) (sent stamp : Stamp) → header.correction ≡ pos 0 → sync_of
+    ensures { (header : Header) (sent stamp : Stamp) → header.correction ≡ pos 0 → joined_sync
         (record {
           part = Sync;
           header = record header { flags = header.flags + 2 ^ 9 };

@@ -1,7 +1,7 @@
 //! The lines that `show` writes.
 
 ghost use Rattle.std.specs.Prelude.{◌≡◌, ◌++◌, OnOk};
-ghost use Rattle.ptu_show.specs.Lines.{line_text};
+ghost use Rattle.ptu_show.specs.Lines.{show_line_text};
 
 use crate::datagram::MessageText;
 use ptu_script::Cause;
@@ -24,7 +24,7 @@ pub enum ShowLine<'a> {
 }
 
 impl Text for ShowLine<'_> {
-    ghost text = { λ l. line_text l };
+    ghost text = { λ l. show_line_text l };
 
     fn put(&self, draft: &mut Draft) -> Result<(), OutOfMemory> {
         let mut line = LineText::new();

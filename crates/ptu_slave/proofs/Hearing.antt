@@ -21,7 +21,7 @@ use Rattle.ptu_slave_messages.specs.declared.reason.SlaveReason.{SlaveReason}
 use Rattle.ptu_slave_messages.specs.declared.signal.Signal.{Signal}
 use Rattle.ptu_profile.specs.Slave.{address_of}
 use Rattle.ptu_slave_messages.specs.Heard.{acks_of, content_of, event_of, replies_to, reply_datagrams, said_by, signals_of, taken_of, taken_or_not}
-use Rattle.ptu_slave_messages.specs.Sending.{departure_of, departure_to}
+use Rattle.ptu_slave_messages.specs.Sending.{sending_departure, departure_to}
 use Rattle.ptu_slave.specs.{Kept.{Kept}, Standing.{Asks, Selects, StandsFor}}
 
 -- ---- messages
@@ -71,7 +71,7 @@ acks_are (tlv.Other t n ∷ tlvs) = acks_are tlvs
 
 -- a reply goes to its master
 reply_departures : (config : SlaveConfig) (masters : List Master) (target : PortIdentity) (m number : ℕ) (codes : List ℕ)
-    → map (departure_to config (address_of masters m) target) (one_reply m number codes) ≡ map (departure_of config masters target) (one_reply m number codes)
+    → map (departure_to config (address_of masters m) target) (one_reply m number codes) ≡ map (sending_departure config masters target) (one_reply m number codes)
 reply_departures config masters target m number [] = refl
 reply_departures config masters target m number (code ∷ codes) = refl
 
@@ -84,7 +84,7 @@ reply_is config used masters m ip number source codes message same address targe
     ∙ ap (λ s. map (departure_to config (address_of masters m) s) (one_reply m number codes)) target
     ∙ ap (λ n. map (departure_to config (address_of masters m) message.header.source) (one_reply m n codes)) sequence
     ∙ reply_departures config masters message.header.source m message.header.sequence codes
-    ∙ ap (map (departure_of config masters message.header.source)) (sym replies)
+    ∙ ap (map (sending_departure config masters message.header.source)) (sym replies)
 
 -- ---- before the first event
 

@@ -8,7 +8,7 @@ use Rattle.ptu_messages.specs.declared.message.Message.{Message}
 use Rattle.ptu_record.specs.{Record.{Record}, Step.{slave_step}}
 use Rattle.ptu_slave_messages.specs.declared.reason.SlaveReason.{SlaveReason}
 use Rattle.ptu_slave_messages.specs.Heard.{event_of, replies_in, replies_to}
-use Rattle.ptu_slave_messages.specs.{Reception.{reception}, Sending.{departure_of}}
+use Rattle.ptu_slave_messages.specs.{Reception.{reception}, Sending.{sending_departure}}
 use Rattle.ptu_slave_messages.specs.Node.{Node, datagram_deed, node_setup, reception_deed}
 
 replies : (node : Node) (L : Record) (t m : ℕ) (header : Header) (b : Body)
@@ -23,7 +23,7 @@ replies node L t m header body.Ignored = refl
 
 of_reception : (node : Node) (L : Record) (t : ℕ) (r : Result (ℕ × Message) SlaveReason) → replies_in node.config node.masters r ≡ (reception_deed node L t r).datagrams
 of_reception node L t (Err reason) = refl
-of_reception node L t (Ok (m, message)) = ap (map (departure_of node.config node.masters message.header.source)) (replies node L t m message.header message.body)
+of_reception node L t (Ok (m, message)) = ap (map (sending_departure node.config node.masters message.header.source)) (replies node L t m message.header message.body)
 
 pub node_replies : (node : Node) (L : Record) (t ip : ℕ) (octets : List ℕ)
     → replies_in node.config node.masters (reception node.config node.masters ip octets) ≡ (datagram_deed node L t ip octets).datagrams

@@ -16,7 +16,7 @@ use Rattle.ptu_requester.proofs.Stops.{all_cancels-before, all_cancels-next}
 use Rattle.ptu_profile.specs.declared.slave.{Master.{Master}, SlaveConfig.{SlaveConfig}}
 use Rattle.ptu_slave_messages.specs.declared.plan.{StopPlan.{StopPlan}, TickPlan.{TickPlan}}
 use Rattle.ptu_profile.specs.Slave.{address_of}
-use Rattle.ptu_slave_messages.specs.Sending.{all_ones, are_some, departure_of, departure_to, kinds_in, stop_plan, tick_plan}
+use Rattle.ptu_slave_messages.specs.Sending.{all_ones, are_some, sending_departure, departure_to, kinds_in, stop_plan, tick_plan}
 use Rattle.ptu_outside.specs.declared.port.Port.{Ghosts as Ports}
 use Rattle.ptu_outside.proofs.HandsOver.{hands-append}
 use Rattle.ptu_slave.specs.{Kept.{Kept}, declared.ticks.Occasion.{Occasion}}
@@ -146,32 +146,32 @@ all_ended m n x old new ss same all = subst (λ k. AllEnded k x old new ss) same
 -- a plan goes to its master
 tick_departures : (config : SlaveConfig) (masters : List Master) (m number : ℕ) (ks : List Kind) (d : Option ℕ)
     → map (departure_to config (address_of masters m) all_ones) (one_signaling (Requests m number) ks ++ option_to_list (option_map (DelayReq m) d))
-    ≡ map (departure_of config masters all_ones) (one_signaling (Requests m number) ks ++ option_to_list (option_map (DelayReq m) d))
+    ≡ map (sending_departure config masters all_ones) (one_signaling (Requests m number) ks ++ option_to_list (option_map (DelayReq m) d))
 tick_departures config masters m number [] None = refl
 tick_departures config masters m number [] (Some n) = refl
 tick_departures config masters m number (k ∷ ks) None = refl
 tick_departures config masters m number (k ∷ ks) (Some n) = refl
 
 stop_departures : (config : SlaveConfig) (masters : List Master) (m number : ℕ) (ks : List Kind)
-    → map (departure_to config (address_of masters m) all_ones) (one_signaling (Cancels m number) ks) ≡ map (departure_of config masters all_ones) (one_signaling (Cancels m number) ks)
+    → map (departure_to config (address_of masters m) all_ones) (one_signaling (Cancels m number) ks) ≡ map (sending_departure config masters all_ones) (one_signaling (Cancels m number) ks)
 stop_departures config masters m number [] = refl
 stop_departures config masters m number (k ∷ ks) = refl
 
 -- those of one master
 module _ {P : Type 0} (ports : Ports P) (now new : P) (core mid : Kept) (m ip : ℕ) (config : SlaveConfig) (sent failed : ℕ)
     (first : config ≡ mid.config) (second : ip ≡ address_of mid.masters m) (rest : mid ≡ record core { requester = mid.requester; counters = mid.counters }) where
-  hands_plan : (plan : List Sending) → map (departure_to core.config (address_of core.masters m) all_ones) plan ≡ map (departure_of core.config core.masters all_ones) plan
-      → HandsOver ports now new (map (departure_to config ip all_ones) plan) sent failed → HandsOver ports now new (map (departure_of core.config core.masters all_ones) plan) sent failed
+  hands_plan : (plan : List Sending) → map (departure_to core.config (address_of core.masters m) all_ones) plan ≡ map (sending_departure core.config core.masters all_ones) plan
+      → HandsOver ports now new (map (departure_to config ip all_ones) plan) sent failed → HandsOver ports now new (map (sending_departure core.config core.masters all_ones) plan) sent failed
   hands_plan plan is =
       subst (λ ds. HandsOver ports now new ds sent failed)
       (ap₂ (λ c i. map (departure_to c i all_ones) plan) (first ∙ ap (λ (k : Kept). k.config) rest) (second ∙ ap (λ (k : Kept). address_of k.masters m) rest) ∙ is)
 
   pub hands_tick : (plan : TickPlan) → ((n : ℕ) → HandsOver ports now new (map (departure_to config ip all_ones) (tick_plan n plan)) sent failed)
-      → HandsOver ports now new (map (departure_of core.config core.masters all_ones) (tick_plan m plan)) sent failed
+      → HandsOver ports now new (map (sending_departure core.config core.masters all_ones) (tick_plan m plan)) sent failed
   hands_tick plan next = hands_plan (tick_plan m plan) (tick_departures core.config core.masters m plan.number (kinds_in plan.kinds) plan.delay_req) (next m)
 
   pub hands_stop : (plan : StopPlan) → ((n : ℕ) → HandsOver ports now new (map (departure_to config ip all_ones) (stop_plan n plan)) sent failed)
-      → HandsOver ports now new (map (departure_of core.config core.masters all_ones) (stop_plan m plan)) sent failed
+      → HandsOver ports now new (map (sending_departure core.config core.masters all_ones) (stop_plan m plan)) sent failed
   hands_stop plan next = hands_plan (stop_plan m plan) (stop_departures core.config core.masters m plan.number (kinds_in plan.kinds)) (next m)
 
 -- ---- both occasions
@@ -189,15 +189,15 @@ sent_masters occasion n x old new ss all = ap (λ (k : Kept). k.masters) (sent_r
 
 -- what one master more is sent
 pub one_more_sent : {P : Type 0} (ports : Ports P) (old now new : P) (occasion : Occasion) (n x : ℕ) (first core last : Kept) (ss : List Sending) (sent failed more worse : ℕ)
-    → AllSent occasion n x first core ss → HandsOver ports old now (map (departure_of first.config first.masters all_ones) ss) sent failed
-    → ((es : List Sending) × AllSent occasion (n + 1) x first last (ss ++ es) × HandsOver ports now new (map (departure_of core.config core.masters all_ones) es) more worse)
-    → (es : List Sending) × AllSent occasion (n + 1) x first last es × HandsOver ports old new (map (departure_of first.config first.masters all_ones) es) (sent + more) (failed + worse)
+    → AllSent occasion n x first core ss → HandsOver ports old now (map (sending_departure first.config first.masters all_ones) ss) sent failed
+    → ((es : List Sending) × AllSent occasion (n + 1) x first last (ss ++ es) × HandsOver ports now new (map (sending_departure core.config core.masters all_ones) es) more worse)
+    → (es : List Sending) × AllSent occasion (n + 1) x first last es × HandsOver ports old new (map (sending_departure first.config first.masters all_ones) es) (sent + more) (failed + worse)
 one_more_sent ports old now new occasion n x first core last ss sent failed more worse all hands one = (
   ss ++ one.0,
   one.1,
-  subst (λ ds. HandsOver ports old new ds (sent + more) (failed + worse)) (sym (map-append (departure_of first.config first.masters all_ones) ss one.0))
+  subst (λ ds. HandsOver ports old new ds (sent + more) (failed + worse)) (sym (map-append (sending_departure first.config first.masters all_ones) ss one.0))
       (hands-append ports old now new _ _ sent failed more worse hands
-      (subst (λ ds. HandsOver ports now new ds more worse) (ap (λ (k : Kept). map (departure_of k.config k.masters all_ones) one.0) (sent_rest occasion n x first core ss all)) one.2)),
+      (subst (λ ds. HandsOver ports now new ds more worse) (ap (λ (k : Kept). map (sending_departure k.config k.masters all_ones) one.0) (sent_rest occasion n x first core ss all)) one.2)),
 )
 
 -- ---- what is entered of what is sent

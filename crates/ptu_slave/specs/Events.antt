@@ -7,7 +7,7 @@ use Rattle.ptu_record.specs.Step.{ReplaceJudge, SlaveEvent, Stop, TellFlag, Tick
 use Rattle.ptu_record.specs.Tick.{Sending}
 use Rattle.ptu_judges.specs.Calls.{OfAll, OfOne, Then, WasAsked, WasTold}
 use Rattle.ptu_judges.specs.Held.{Held}
-use Rattle.ptu_slave_messages.specs.Sending.{all_ones, departure_of}
+use Rattle.ptu_slave_messages.specs.Sending.{all_ones, sending_departure}
 use Rattle.ptu_slave.specs.{Seen.{Seen}, Standing.{StandsFor, Steps, StepsBy, setup_of}}
 use Rattle.ptu_slave.specs.declared.ticked.Ticked.{Ticked}
 
@@ -24,7 +24,7 @@ GoesBy found old new t e = (openings : List (Option Rule)) (L : Record) → Stan
 -- it hands to the port what is sent at this event, of which so many were sent and so many failed
 abbrev pub Sends : {P B : Type 0} → Ports P → (old new : Seen P B) → SlaveEvent → Ticked → Type 0
 Sends ports old new e result = (handed : List Sending) × HandsOver ports old.port new.port
-    (map (departure_of old.kept.config old.kept.masters all_ones) handed) result.sent result.failed
+    (map (sending_departure old.kept.config old.kept.masters all_ones) handed) result.sent result.failed
     × ((openings : List (Option Rule)) (L : Record) → StandsFor openings old.kept old.judges L
     → handed ≡ sendings (setup_of old.kept.config openings) L result.at e)
 

@@ -6,7 +6,7 @@ ghost use Rattle.ptu_record.specs.Step.{ReplaceJudge, SlaveEvent, Tick, judged_m
 ghost use Rattle.ptu_judges.specs.Held.{Held};
 ghost use Rattle.ptu_slave.specs.{Kept.{Kept}, Standing.{StandsFor, Steps, setup_of}};
 ghost use Rattle.ptu_slave_messages.specs.{Heard.{replies_in}, Reception.{reception}};
-ghost use Rattle.ptu_slave_messages.specs.Sending.{all_ones, departure_of};
+ghost use Rattle.ptu_slave_messages.specs.Sending.{all_ones, sending_departure};
 ghost use Rattle.ptu_slave_messages.specs.Node.{Node, datagram_deed, deed};
 
 /// Where each judge has a rule, a step is the one step of the event.
@@ -33,7 +33,7 @@ pub fn nodes()
         replies_in node.config node.masters (reception node.config node.masters ip octets)
         ≡ (datagram_deed node L t ip octets).datagrams }
     ensures ticks { (node : Node) (L : Record) (t : ℕ) → (deed node L t Tick).datagrams ≡
-        map (departure_of node.config node.masters all_ones)
+        map (sending_departure node.config node.masters all_ones)
         (sendings (setup_of node.config node.openings) L (event_moment L t) Tick) }
     ensures entries { (node : Node) (L : Record) (t : ℕ) (e : SlaveEvent) →
         (deed node L t e).entries

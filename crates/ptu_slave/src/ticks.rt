@@ -3,7 +3,7 @@
 ghost use Rattle.std.specs.Prelude.{◌<◌, ◌≤◌, ◌+◌, List, ◌++◌, map, length};
 ghost use Rattle.ptu_outside.specs.HandsOver.{HandsOver};
 ghost use Rattle.ptu_record.specs.Tick.{Sending};
-ghost use Rattle.ptu_slave_messages.specs.Sending.{all_ones, departure_of};
+ghost use Rattle.ptu_slave_messages.specs.Sending.{all_ones, sending_departure};
 ghost use Rattle.ptu_slave.specs.{Kept.{Kept}, Parts.{AllSent, Ticks}};
 
 use crate::node::Core;
@@ -31,7 +31,7 @@ fn send_one<P: Port>(
         AllSent occasion master at first core.old before → (more : List Sending) ×
         AllSent occasion (master + 1) at first core.new (before ++ more) ×
         HandsOver P.Port port.old port.new
-        (map (departure_of core.old.config core.old.masters all_ones) more)
+        (map (sending_departure core.old.config core.old.masters all_ones) more)
         result.sent result.failed }
     ensures few { result.sent + result.failed ≤ 2 }
 {
@@ -57,7 +57,7 @@ pub(crate) fn send_all<P: Port>(
     ensures sends { (sendings : List Sending) ×
         AllSent occasion (length core.old.masters) at core.old core.new sendings ×
         HandsOver P.Port port.old port.new
-        (map (departure_of core.old.config core.old.masters all_ones) sendings)
+        (map (sending_departure core.old.config core.old.masters all_ones) sendings)
         result.sent result.failed }
 {
     let mut sends = Sends::none();
@@ -71,7 +71,7 @@ pub(crate) fn send_all<P: Port>(
 pub(crate) fn tick_all<P: Port>(core: &mut Core, port: &mut P, at: Moment) -> Sends
     ensures sends { (sendings : List Sending) × Ticks at core.old core.new sendings ×
         HandsOver P.Port port.old port.new
-        (map (departure_of core.old.config core.old.masters all_ones) sendings)
+        (map (sending_departure core.old.config core.old.masters all_ones) sendings)
         result.sent result.failed }
 {
     if core.is_stopped() {

@@ -10,8 +10,8 @@ use Rattle.ptu_record.specs.Record.{Record}
 use Rattle.ptu_slave_messages.specs.Node.{Node}
 use Rattle.ptu_slave.specs.Seen.{Seen}
 use Rattle.ptu_slave_daemon.specs.declared.counts.Counts.{Counts}
-use Rattle.ptu_slave_daemon.specs.Happenings.{arrive, record_after}
-use Rattle.ptu_slave_daemon.specs.Running.{Counted, HasFailed, IsAt, Ran, RoundTook, Took, TookEvent, TookGeneral, TookOne, View}
+use Rattle.ptu_slave_daemon.specs.Happenings.{arrive, record_by_happenings}
+use Rattle.ptu_slave_daemon.specs.Running.{Counted, HasFailed, IsAt, SlaveRan, RoundTook, SlaveTook, TookEvent, TookGeneral, TookOne, View}
 use Rattle.ptu_slave_daemon.proofs.Ports.{failed_append, failed_none, still_after, still_before}
 use Rattle.ptu_slave_daemon.proofs.Runs.{ran_append, ran_still}
 
@@ -79,15 +79,15 @@ one_if more = cond more 1 0
 
 module _ (once : Bool) (node : Node) where
   pub took_none : (L : Record) (old new : View) (failed : ℕ) → IsAt node old.kept old.judges L → new.kept ≡ old.kept → new.judges ≡ old.judges → new.sent ≡ old.sent → new.times ≡ old.times
-      → HasFailed once old.faults new.faults failed → Took once node L old new [] 0 failed failed
+      → HasFailed once old.faults new.faults failed → SlaveTook once node L old new [] 0 failed failed
   took_none L old new failed h kept judges sent times fails = ([], ran_still once node L old new failed h kept judges sent times fails)
 
   -- and more by the record after them
-  pub took_append : (L : Record) (old now new : View) (xs ys : List Arrival) (s t f g m n : ℕ) → (p : Took once node L old now xs s f m)
-      → Took once node (record_after node L p.0) now new ys t g n → Took once node L old new (xs ++ ys) (s + t) (f + g) (m + n)
+  pub took_append : (L : Record) (old now new : View) (xs ys : List Arrival) (s t f g m n : ℕ) → (p : SlaveTook once node L old now xs s f m)
+      → SlaveTook once node (record_by_happenings node L p.0) now new ys t g n → SlaveTook once node L old new (xs ++ ys) (s + t) (f + g) (m + n)
   took_append L old now new xs ys s t f g m n p q = (
     p.0 ++ q.0,
-    subst (λ acts. Ran once node L old new acts (p.0 ++ q.0) [] (s + t) (f + g) (m + n)) (sym (map-append arrive xs ys))
+    subst (λ acts. SlaveRan once node L old new acts (p.0 ++ q.0) [] (s + t) (f + g) (m + n)) (sym (map-append arrive xs ys))
         (ran_append once node L old now new (map arrive xs) (map arrive ys) p.0 q.0 [] [] s t f g m n p.1 q.1),
   )
 
@@ -165,7 +165,7 @@ module _ {P B C : Type 0} (ports : Ports P) (clocks : Clocks C) where
         → TookGeneral ports clocks old new clock clock' Both a c
     general_more both first next = λ node L h.
         let p = first node L h in
-        let q = next node (record_after node L p.6.0) p.6.1.stands in (
+        let q = next node (record_by_happenings node L p.6.0) p.6.1.stands in (
           p.0 ++ q.0,
           p.1 + q.1,
           p.2 + q.2,
@@ -182,7 +182,7 @@ module _ {P B C : Type 0} (ports : Ports P) (clocks : Clocks C) where
         → TookEvent ports clocks old new clock clock' event event' Both a c
     event_more event between event' both first next = λ node L h.
         let p = first node L h in
-        let q = next node (record_after node L p.7.0) p.7.1.stands in (
+        let q = next node (record_by_happenings node L p.7.0) p.7.1.stands in (
           p.0 ++ q.0,
           p.1 + q.1,
           p.2 + q.2,

@@ -13,9 +13,9 @@ use Rattle.ptu_slave.specs.Kept.{Kept}
 use Rattle.ptu_rounds.specs.{Handed.{FailuresAre}, Ports.{HaveNotRisen, HaveRisenBy, HaveRisenJust, ports_of}}
 use Rattle.ptu_slave_daemon.specs.declared.line.SlaveLine.{SlaveLine}
 use Rattle.ptu_slave_daemon.specs.Happenings.{Selection, happenings}
-use Rattle.ptu_slave_daemon.specs.{Lines.{changes, line_text, output, texts_of}, Opening.{node_of}}
+use Rattle.ptu_slave_daemon.specs.{Lines.{changes, slave_line_text, output, slave_texts}, Opening.{node_of}}
 use Rattle.ptu_slave_daemon.specs.Running.{IsFront, RunDone, view_of}
-use Rattle.ptu_slave_daemon.specs.Served.{AreAside, Happened, HasDone, HasServed, HasStopped, Tell}
+use Rattle.ptu_slave_daemon.specs.Served.{AreAside, SlaveHappened, HasDone, HasServed, HasStopped, Tell}
 use Rattle.ptu_slave_daemon.proofs.Fronts.{run_is, run_output}
 
 -- a count that stands still has risen by nothing
@@ -75,7 +75,7 @@ aside_of sent opened own event clock same = record { p0 = refl; p1 = refl; p2 = 
 module _ {P C K : Type 0} (ports : Ports P) (clocks : Clocks C) (written : K → Option (List ℕ)) (handed : K → Option (List (List ℕ))) where
   module _ (settings : SlaveSettings) (before after : Opened P C) (old new : K) (kept kept' : Kept) (judges judges' : List Held)
       (selections : List Selection) (sends failures : ℕ) (aside : AreAside ports.sent before after)
-      (put : HasPut written handed old new (texts_of (output (all_slave_rounds settings) (changes None selections) sends failures)))
+      (put : HasPut written handed old new (slave_texts (output (all_slave_rounds settings) (changes None selections) sends failures)))
       (r : RunDone ports.counts_once (all_slave_rounds settings) selections sends failures (node_of settings) [] (view_of ports clocks kept judges before.p4 before.c0) (view_of ports clocks kept' judges' after.p4 after.c0)
       (ports.waiting before.p4) (ports.waiting after.p4) (ports.waiting before.p5) (ports.waiting after.p5) (ports.faults before.p5) (ports.faults after.p5)) where
     have_risen : HaveRisenBy failures (map ports.faults (ports_of before)) (map ports.faults (ports_of after))
@@ -108,7 +108,7 @@ module _ {P C K : Type 0} (ports : Ports P) (clocks : Clocks C) (written : K →
           (r.ran.port.fails.quiet (omega (arith, none, r.failures_are))) (r.event_fails.quiet (omega (arith, none, r.failures_are)));
     }
 
-    has_happened : Happened ports clocks settings before after (changes None selections) sends failures
+    has_happened : SlaveHappened ports clocks settings before after (changes None selections) sends failures
     has_happened = record {
       rounds = r.took;
       taken = r.taken;
@@ -132,7 +132,7 @@ module _ {P C K : Type 0} (ports : Ports P) (clocks : Clocks C) (written : K →
         tell.general_after tell.event_after tell.times_after none.1.1.1.1.0 none.1.1.1.1.1.0)
         (record {
           sends = r.ran.port.part.all none.1.1.1.1.0;
-          writes = subst (λ lines. HasPut written handed old new (texts_of lines))
+          writes = subst (λ lines. HasPut written handed old new (slave_texts lines))
               (run_output ports.counts_once (node_of settings) [] _ _ _ _ _ _ _ _ (all_slave_rounds settings) selections sends failures r none.1.1.1.1.0 none.1.1.1.1.1.0) put;
         })
 
@@ -151,7 +151,7 @@ module _ {P C K : Type 0} (ports : Ports P) (clocks : Clocks C) (written : K →
   -- the same of the slave's own port, which is port 4
   pub has_served_by : (settings : SlaveSettings) (before after : Opened P C) (old new : K) (kept kept' : Kept) (judges judges' : List Held) (p q : P)
       (selections : List Selection) (sends failures : ℕ) → AreAside ports.sent before after → p ≡ before.p4 → after.p4 ≡ q
-      → HasPut written handed old new (texts_of (output (all_slave_rounds settings) (changes None selections) sends failures))
+      → HasPut written handed old new (slave_texts (output (all_slave_rounds settings) (changes None selections) sends failures))
       → RunDone ports.counts_once (all_slave_rounds settings) selections sends failures (node_of settings) [] (view_of ports clocks kept judges p before.c0) (view_of ports clocks kept' judges' q after.c0)
       (ports.waiting p) (ports.waiting q) (ports.waiting before.p5) (ports.waiting after.p5) (ports.faults before.p5) (ports.faults after.p5)
       → HasServed ports clocks written handed settings before after old new
@@ -164,7 +164,7 @@ module _ {P C K : Type 0} (ports : Ports P) (clocks : Clocks C) (written : K →
 
   -- the sink failed
   pub has_stopped : (settings : SlaveSettings) (before after : Opened P C) (old new : K) (kept kept' : Kept) (judges judges' : List Held) (p q : P) (lines : List SlaveLine)
-      → AreAside ports.sent before after → p ≡ before.p4 → after.p4 ≡ q → HasPutPart written handed old new (texts_of lines)
+      → AreAside ports.sent before after → p ≡ before.p4 → after.p4 ≡ q → HasPutPart written handed old new (slave_texts lines)
       → IsFront (all_slave_rounds settings) lines (node_of settings) [] (view_of ports clocks kept judges p before.c0) (view_of ports clocks kept' judges' q after.c0)
       (ports.waiting p) (ports.waiting q) (ports.waiting before.p5) (ports.waiting after.p5) (ports.faults before.p5) (ports.faults after.p5)
       → HasStopped ports clocks written handed settings before after old new
@@ -174,6 +174,6 @@ module _ {P C K : Type 0} (ports : Ports P) (clocks : Clocks C) (written : K →
         let f = front general event times (ap ports.waiting own ∙ tell.general_is) tell.event_is tell.times_are
         (subst (λ x. IsSome (ports.waiting x)) back tell.general_after) tell.event_after tell.times_after
         (λ rises. none.1.1.1.1.0 (subst (λ x. HasRisen (ports.faults x) (ports.faults after.p4)) own (subst (λ x. HasRisen (ports.faults p) (ports.faults x)) (sym back) rises))) none.1.1.1.1.1.0 in
-        subst (HasPutPart written handed old new) (sym (ap texts_of f.1 ∙ map-append line_text lines f.0))
-        (HasPutPart-append written handed old new (texts_of lines) (texts_of f.0) part);
+        subst (HasPutPart written handed old new) (sym (ap slave_texts f.1 ∙ map-append slave_line_text lines f.0))
+        (HasPutPart-append written handed old new (slave_texts lines) (slave_texts f.0) part);
   }

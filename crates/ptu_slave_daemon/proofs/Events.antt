@@ -14,12 +14,12 @@ use Rattle.ptu_slave_messages.specs.declared.reason.SlaveReason.{SlaveReason}
 use Rattle.ptu_profile.specs.Slave.{address_of, priorities, timeouts}
 use Rattle.ptu_slave_messages.specs.Heard.{event_of, replies_in}
 use Rattle.ptu_slave_messages.specs.Node.{Node, datagram_deed, deed, node_selection, node_setup, reception_deed}
-use Rattle.ptu_slave_messages.specs.{Reception.{reception}, Sending.{all_ones, departure_of}}
+use Rattle.ptu_slave_messages.specs.{Reception.{reception}, Sending.{all_ones, sending_departure}}
 use Rattle.ptu_slave.specs.{Kept.{IsSame, Kept}, Standing.{StandsFor, Steps, setup_of}}
 use Rattle.ptu_slave.proofs.{Nodes.{node_replies}, Ruled.{ruled_step}, Staying.{rules_stay}}
 use Rattle.ptu_slave.proofs.Stepping.{moment_is}
 use Rattle.ptu_slave_daemon.specs.Happenings.{Arrives, Stops, Ticks}
-use Rattle.ptu_slave_daemon.specs.Running.{AreTimed, IsAt, PortDid, Ran, View}
+use Rattle.ptu_slave_daemon.specs.Running.{AreTimed, IsAt, PortDid, SlaveRan, View}
 use Rattle.ptu_slave_messages.proofs.Senders.{judged_within, no_judge, taken_within}
 
 -- ---- masters
@@ -79,7 +79,7 @@ module _ (once : Bool) (node : Node) (L : Record) (old new : View) (t : ℕ) (h 
       → ((reason : SlaveReason) → reception old.kept.config old.kept.masters arrival.ip arrival.bytes ≡ Err reason → (new.kept ≡ old.kept) × (new.judges ≡ old.judges))
       → ((m : ℕ) (message : Message) → reception old.kept.config old.kept.masters arrival.ip arrival.bytes ≡ Ok (m, message) → Steps node.openings old.kept new.kept new.judges L t (event_of m message))
       → PortDid once old.sent new.sent old.faults new.faults (replies_in old.kept.config old.kept.masters (reception old.kept.config old.kept.masters arrival.ip arrival.bytes)) sent failed 0
-      → Ran once node L old new (Arrives arrival ∷ []) (Arrives arrival t ∷ []) [] sent failed 0
+      → SlaveRan once node L old new (Arrives arrival ∷ []) (Arrives arrival t ∷ []) [] sent failed 0
   ran_taken arrival sent failed timed ignored steps hands = record {
     happened = ((t, refl), tt);
     timed = timed;
@@ -96,24 +96,24 @@ module _ (once : Bool) (node : Node) (L : Record) (old new : View) (t : ℕ) (h 
   -- a tick or the stop sends
   handed : (at : ℕ) (e : SlaveEvent) (sent failed : ℕ) → at ≡ max t old.kept.moment
       → PortDid once old.sent new.sent old.faults new.faults
-      (map (departure_of old.kept.config old.kept.masters all_ones) (sendings (setup_of old.kept.config node.openings) L at e)) sent failed 0
+      (map (sending_departure old.kept.config old.kept.masters all_ones) (sendings (setup_of old.kept.config node.openings) L at e)) sent failed 0
       → PortDid once old.sent new.sent old.faults new.faults ((deed node L t e).datagrams ++ []) sent failed 0
   handed at e sent failed is hands =
       subst (λ ds. PortDid once old.sent new.sent old.faults new.faults ds sent failed 0) datagrams hands
     where
-      datagrams : map (departure_of old.kept.config old.kept.masters all_ones) (sendings (setup_of old.kept.config node.openings) L at e) ≡ (deed node L t e).datagrams ++ []
+      datagrams : map (sending_departure old.kept.config old.kept.masters all_ones) (sendings (setup_of old.kept.config node.openings) L at e) ≡ (deed node L t e).datagrams ++ []
       datagrams =
-          ap (λ x. map (departure_of old.kept.config old.kept.masters all_ones) (sendings (setup_of old.kept.config node.openings) L x e)) (is ∙ moment_is node.openings old.kept old.judges L t h.stands)
-          ∙ ap₂ (λ (config : SlaveConfig) (masters : List Master). map (departure_of config masters all_ones) (sendings (setup_of config node.openings) L (event_moment L t) e)) h.config h.masters
+          ap (λ x. map (sending_departure old.kept.config old.kept.masters all_ones) (sendings (setup_of old.kept.config node.openings) L x e)) (is ∙ moment_is node.openings old.kept old.judges L t h.stands)
+          ∙ ap₂ (λ (config : SlaveConfig) (masters : List Master). map (sending_departure config masters all_ones) (sendings (setup_of config node.openings) L (event_moment L t) e)) h.config h.masters
           ∙ sym (append-nil (deed node L t e).datagrams)
 
   pub ran_ticked : (at round sent failed : ℕ) (master : Option ℕ) → AreTimed old.times new.times (Ticks round ∷ []) (Ticks round t ∷ []) → at ≡ max t old.kept.moment
       → Steps node.openings old.kept new.kept new.judges L t Tick
       → PortDid once old.sent new.sent old.faults new.faults
-      (map (departure_of old.kept.config old.kept.masters all_ones) (sendings (setup_of old.kept.config node.openings) L at Tick)) sent failed 0
+      (map (sending_departure old.kept.config old.kept.masters all_ones) (sendings (setup_of old.kept.config node.openings) L at Tick)) sent failed 0
       → ((openings : List (Option Rule)) (M : Record) → StandsFor openings new.kept new.judges M
       → master ≡ option_map (address_of new.kept.masters) (selected_master (timeouts new.kept.config) (priorities new.kept.masters) M (event_moment M t)))
-      → Ran once node L old new (Ticks round ∷ []) (Ticks round t ∷ []) (record { round = round; master = master } ∷ []) sent failed 0
+      → SlaveRan once node L old new (Ticks round ∷ []) (Ticks round t ∷ []) (record { round = round; master = master } ∷ []) sent failed 0
   ran_ticked at round sent failed master timed is steps hands selects = record {
     happened = ((t, refl), tt);
     timed = timed;
@@ -135,8 +135,8 @@ module _ (once : Bool) (node : Node) (L : Record) (old new : View) (t : ℕ) (h 
   pub ran_stopped : (at sent failed : ℕ) → AreTimed old.times new.times (Stops ∷ []) (Stops t ∷ []) → at ≡ max t old.kept.moment
       → Steps node.openings old.kept new.kept new.judges L t Stop
       → PortDid once old.sent new.sent old.faults new.faults
-      (map (departure_of old.kept.config old.kept.masters all_ones) (sendings (setup_of old.kept.config node.openings) L at Stop)) sent failed 0
-      → Ran once node L old new (Stops ∷ []) (Stops t ∷ []) [] sent failed 0
+      (map (sending_departure old.kept.config old.kept.masters all_ones) (sendings (setup_of old.kept.config node.openings) L at Stop)) sent failed 0
+      → SlaveRan once node L old new (Stops ∷ []) (Stops t ∷ []) [] sent failed 0
   ran_stopped at sent failed timed is steps hands = record {
     happened = ((t, refl), tt);
     timed = timed;

@@ -9,22 +9,22 @@ use Rattle.ptu_outside.proofs.Telling.{IfTold-refl}
 use Rattle.ptu_record.specs.Record.{Record}
 use Rattle.ptu_slave_messages.specs.Node.{Node}
 use Rattle.ptu_slave_daemon.specs.declared.counts.Counts.{Counts}
-use Rattle.ptu_slave_daemon.specs.Happenings.{Happening, Selection, Stops, Ticks, acts_of, arrive, record_after, round_of, round_with}
-use Rattle.ptu_slave_daemon.specs.Running.{AreRounds, Counted, HasFailed, IsAt, Ran, RoundTook, RoundsDone, RunDone, View}
+use Rattle.ptu_slave_daemon.specs.Happenings.{SlaveHappening, Selection, Stops, Ticks, happenings_of_rounds, arrive, record_by_happenings, slave_round_of, slave_round_with}
+use Rattle.ptu_slave_daemon.specs.Running.{AreSlaveRounds, Counted, HasFailed, IsAt, SlaveRan, RoundTook, RoundsDone, RunDone, View}
 use Rattle.ptu_slave_daemon.proofs.Arrived.{came_append, came_none}
 use Rattle.ptu_slave_daemon.proofs.Ports.{failed_append, failed_none, still_after, still_before}
 use Rattle.ptu_slave_daemon.proofs.Runs.{ran_append, ran_still}
 
-pub in_rounds-zero : (round : ℕ → List (ℕ → Happening)) → in_rounds round 0 ≡ []
+pub in_rounds-zero : (round : ℕ → List (ℕ → SlaveHappening)) → in_rounds round 0 ≡ []
 unfolding in_rounds
 in_rounds-zero round = refl
 
-pub in_rounds-suc : (round : ℕ → List (ℕ → Happening)) (n : ℕ) → in_rounds round (suc n) ≡ in_rounds round n ++ round n
+pub in_rounds-suc : (round : ℕ → List (ℕ → SlaveHappening)) (n : ℕ) → in_rounds round (suc n) ≡ in_rounds round n ++ round n
 unfolding in_rounds
 in_rounds-suc round n = refl
 
 -- some rounds, and more
-pub in_rounds-add : (round : ℕ → List (ℕ → Happening)) (n m : ℕ) → (rest : List (ℕ → Happening)) × (in_rounds round (n + m) ≡ in_rounds round n ++ rest)
+pub in_rounds-add : (round : ℕ → List (ℕ → SlaveHappening)) (n m : ℕ) → (rest : List (ℕ → SlaveHappening)) × (in_rounds round (n + m) ≡ in_rounds round n ++ rest)
 in_rounds-add round n zero = ([], ap (in_rounds round) (add-zero n) ∙ sym (append-nil (in_rounds round n)))
 in_rounds-add round n (suc m) =
     let before = in_rounds-add round n m in
@@ -66,22 +66,22 @@ round_is all xs left n few whole is =
 
 module _ (general event : Option (List Arrival)) where
   pub rounds_none : (general' event' : Option (List Arrival)) (faults faults' event_faults event_faults' : ℕ) → general' ≡ general → event' ≡ event
-      → AreRounds 0 general general' event event' faults faults' event_faults event_faults' []
+      → AreSlaveRounds 0 general general' event event' faults faults' event_faults event_faults' []
   rounds_none general' event' faults faults' event_faults event_faults' same event_same = λ still event_still left event_left is event_is. (
     left,
     event_left,
     sym same ∙ is,
     sym event_same ∙ event_is,
-    sym (in_rounds-zero (round_of left event_left)),
+    sym (in_rounds-zero (slave_round_of left event_left)),
     refl,
     refl,
   )
 
   pub rounds_more : (n : ℕ) (general' general'' event' event'' : Option (List Arrival)) (faults faults' faults'' event_faults event_faults' event_faults'' : ℕ)
-      (acts : List (ℕ → Happening)) (xs ys : List Arrival) (m k : ℕ) → HasNotFallen faults faults' → HasNotFallen faults' faults'' → HasNotFallen event_faults event_faults' → HasNotFallen event_faults' event_faults''
-      → AreRounds n general general' event event' faults faults' event_faults event_faults' acts
+      (acts : List (ℕ → SlaveHappening)) (xs ys : List Arrival) (m k : ℕ) → HasNotFallen faults faults' → HasNotFallen faults' faults'' → HasNotFallen event_faults event_faults' → HasNotFallen event_faults' event_faults''
+      → AreSlaveRounds n general general' event event' faults faults' event_faults event_faults' acts
       → RoundTook general' general'' faults' faults'' xs m → RoundTook event' event'' event_faults' event_faults'' ys k
-      → AreRounds (n + 1) general general'' event event'' faults faults'' event_faults event_faults'' (acts ++ (map arrive (xs ++ ys) ++ Ticks (n + 1) ∷ []))
+      → AreSlaveRounds (n + 1) general general'' event event'' faults faults'' event_faults event_faults'' (acts ++ (map arrive (xs ++ ys) ++ Ticks (n + 1) ∷ []))
   rounds_more n general' general'' event' event'' faults faults' faults'' event_faults event_faults' event_faults'' acts xs ys m k keeps keeps' event_keeps event_keeps' rounds took event_took =
       λ still event_still left event_left is event_is.
       let took' : RoundTook general' (Some left) faults' faults'' xs m = subst (λ w. RoundTook general' w faults' faults'' xs m) is took in
@@ -95,7 +95,7 @@ module _ (general event : Option (List Arrival)) where
         before.2,
         before.3,
         ap₂ (λ l m. l ++ m) before.4 (ap₂ (λ l m. map arrive (l ++ m) ++ Ticks (n + 1) ∷ []) one.0 event_one.0)
-            ∙ sym (in_rounds-suc (round_of before.0 before.1) n) ∙ ap (in_rounds (round_of before.0 before.1)) (omega arith),
+            ∙ sym (in_rounds-suc (slave_round_of before.0 before.1) n) ∙ ap (in_rounds (slave_round_of before.0 before.1)) (omega arith),
         one.1,
         event_one.1,
       )
@@ -116,18 +116,18 @@ module _ (once : Bool) (node : Node) (L : Record) (old : View) (general event : 
     failures_are = none_failed;
     missed = 0;
     few = omega arith;
-    ran = subst (λ n. Ran once node L old old [] [] [] n 0 0) (sym none)
+    ran = subst (λ n. SlaveRan once node L old old [] [] [] n 0 0) (sym none)
         (ran_still once node L old old 0 h refl refl refl refl (failed_none once old.faults old.faults refl));
     event_fails = failed_none once event_faults event_faults refl;
     as_said = rounds_none general event general event old.faults old.faults event_faults event_faults refl refl;
   }
 
   pub done_more : (n : ℕ) (now new : View) (general' general'' event' event'' : Option (List Arrival)) (event_faults' event_faults'' : ℕ) (ss : List Selection) (s : Selection)
-      (before after : Counts) (xs ys : List Arrival) (hs : List Happening) (sent failed event_failed missed : ℕ)
+      (before after : Counts) (xs ys : List Arrival) (hs : List SlaveHappening) (sent failed event_failed missed : ℕ)
       → (p : RoundsDone once n ss before.sent before.failed node L old now general general' event event' event_faults event_faults')
       → Counted sent (failed + event_failed) before after → HasFailed once event_faults' event_faults'' event_failed
       → RoundTook general' general'' now.faults new.faults xs missed → RoundTook event' event'' event_faults' event_faults'' ys event_failed
-      → Ran once node (record_after node L p.hs) now new (map arrive (xs ++ ys) ++ Ticks (n + 1) ∷ []) hs (s ∷ []) sent failed missed
+      → SlaveRan once node (record_by_happenings node L p.hs) now new (map arrive (xs ++ ys) ++ Ticks (n + 1) ∷ []) hs (s ∷ []) sent failed missed
       → RoundsDone once (n + 1) (ss ++ s ∷ []) after.sent after.failed node L old new general general'' event event'' event_faults event_faults''
   done_more n now new general' general'' event' event'' event_faults' event_faults'' ss s before after xs ys hs sent failed event_failed missed p counted fails took event_took ran = record {
     took = p.took ++ round ∷ [];
@@ -142,27 +142,27 @@ module _ (once : Bool) (node : Node) (L : Record) (old : View) (general event : 
     failures_are = omega (arith, counted.1, p.failures_are);
     missed = p.missed + missed;
     few = omega (arith, p.few, took.once, event_took.once);
-    ran = subst (λ acts. Ran once node L old new acts (p.hs ++ hs) (ss ++ s ∷ []) after.sent (p.failed + failed) (p.missed + missed)) (sym acts)
-        (subst (λ k. Ran once node L old new (acts_of p.took ++ (map arrive (xs ++ ys) ++ Ticks (n + 1) ∷ [])) (p.hs ++ hs) (ss ++ s ∷ []) k (p.failed + failed) (p.missed + missed)) (sym counted.0)
-        (ran_append once node L old now new (acts_of p.took) (map arrive (xs ++ ys) ++ Ticks (n + 1) ∷ []) p.hs hs ss (s ∷ []) before.sent sent p.failed failed p.missed missed p.ran ran));
+    ran = subst (λ acts. SlaveRan once node L old new acts (p.hs ++ hs) (ss ++ s ∷ []) after.sent (p.failed + failed) (p.missed + missed)) (sym acts)
+        (subst (λ k. SlaveRan once node L old new (happenings_of_rounds p.took ++ (map arrive (xs ++ ys) ++ Ticks (n + 1) ∷ [])) (p.hs ++ hs) (ss ++ s ∷ []) k (p.failed + failed) (p.missed + missed)) (sym counted.0)
+        (ran_append once node L old now new (happenings_of_rounds p.took) (map arrive (xs ++ ys) ++ Ticks (n + 1) ∷ []) p.hs hs ss (s ∷ []) before.sent sent p.failed failed p.missed missed p.ran ran));
     event_fails = failed_append once event_faults event_faults' event_faults'' p.event_failed event_failed p.event_fails fails;
-    as_said = subst (AreRounds (n + 1) general general'' event event'' old.faults new.faults event_faults event_faults'') (sym acts)
-        (rounds_more general event n general' general'' event' event'' old.faults now.faults new.faults event_faults event_faults' event_faults'' (acts_of p.took) xs ys missed event_failed
+    as_said = subst (AreSlaveRounds (n + 1) general general'' event event'' old.faults new.faults event_faults event_faults'') (sym acts)
+        (rounds_more general event n general' general'' event' event'' old.faults now.faults new.faults event_faults event_faults' event_faults'' (happenings_of_rounds p.took) xs ys missed event_failed
         p.ran.port.fails.no_fall ran.port.fails.no_fall p.event_fails.no_fall fails.no_fall p.as_said took event_took);
   }
     where
       round : Round
       round = record { general = xs; event = ys }
 
-      acts : acts_of (p.took ++ round ∷ []) ≡ acts_of p.took ++ (map arrive (xs ++ ys) ++ Ticks (n + 1) ∷ [])
-      acts = in_these-push (λ before taken. round_with before taken) p.took n round p.taken
+      acts : happenings_of_rounds (p.took ++ round ∷ []) ≡ happenings_of_rounds p.took ++ (map arrive (xs ++ ys) ++ Ticks (n + 1) ∷ [])
+      acts = in_these-push (λ before taken. slave_round_with before taken) p.took n round p.taken
 
   -- and the stop
   pub done_run : (n : ℕ) (now new : View) (general' general'' event' : Option (List Arrival)) (event_faults' : ℕ) (ss : List Selection)
-      (before after : Counts) (hs : List Happening) (sent failed : ℕ)
+      (before after : Counts) (hs : List SlaveHappening) (sent failed : ℕ)
       → (p : RoundsDone once n ss before.sent before.failed node L old now general general' event event' event_faults event_faults')
       → Counted sent failed before after → general'' ≡ general'
-      → Ran once node (record_after node L p.hs) now new (Stops ∷ []) hs [] sent failed 0
+      → SlaveRan once node (record_by_happenings node L p.hs) now new (Stops ∷ []) hs [] sent failed 0
       → RunDone once n ss after.sent after.failed node L old new general general'' event event' event_faults event_faults'
   done_run n now new general' general'' event' event_faults' ss before after hs sent failed p counted same ran = record {
     took = p.took;
@@ -175,9 +175,9 @@ module _ (once : Bool) (node : Node) (L : Record) (old : View) (general event : 
     failures_are = omega (arith, counted.1, p.failures_are);
     missed = p.missed + 0;
     few = omega (arith, p.few);
-    ran = subst (λ ts. Ran once node L old new (acts_of p.took ++ Stops ∷ []) (p.hs ++ hs) ts after.sent (p.failed + failed) (p.missed + 0)) (append-nil ss)
-        (subst (λ k. Ran once node L old new (acts_of p.took ++ Stops ∷ []) (p.hs ++ hs) (ss ++ []) k (p.failed + failed) (p.missed + 0)) (sym counted.0)
-        (ran_append once node L old now new (acts_of p.took) (Stops ∷ []) p.hs hs ss [] before.sent sent p.failed failed p.missed 0 p.ran ran));
+    ran = subst (λ ts. SlaveRan once node L old new (happenings_of_rounds p.took ++ Stops ∷ []) (p.hs ++ hs) ts after.sent (p.failed + failed) (p.missed + 0)) (append-nil ss)
+        (subst (λ k. SlaveRan once node L old new (happenings_of_rounds p.took ++ Stops ∷ []) (p.hs ++ hs) (ss ++ []) k (p.failed + failed) (p.missed + 0)) (sym counted.0)
+        (ran_append once node L old now new (happenings_of_rounds p.took) (Stops ∷ []) p.hs hs ss [] before.sent sent p.failed failed p.missed 0 p.ran ran));
     event_fails = p.event_fails;
     as_said = λ still event_still left event_left is event_is.
         p.as_said (still_before old.faults now.faults new.faults ran.port.fails.no_fall still) event_still left event_left (sym same ∙ is) event_is;

@@ -3,7 +3,7 @@ use Rattle.std.proofs.Common.{◌≡◌, ◌≢◌, ◌∙◌, ℕ, zero, suc, �
 use Rattle.std.specs.Prelude.{option_map}
 use Rattle.ptu_outside.specs.{Clocks.{after_first}, Telling.{IfTold, IsFirstTold}}
 use Rattle.ptu_rounds.specs.Rounds.{moments_after, next_of, timed}
-use Rattle.ptu_slave_daemon.specs.{Happenings.{Happening}, Running.{AreTimed}}
+use Rattle.ptu_slave_daemon.specs.{Happenings.{SlaveHappening}, Running.{AreTimed}}
 
 pub moments_after-zero : (times : List ℕ) → moments_after 0 times ≡ times
 unfolding moments_after
@@ -13,11 +13,11 @@ pub moments_after-suc : (n : ℕ) (times : List ℕ) → moments_after (suc n) t
 unfolding moments_after
 moments_after-suc n times = refl
 
-pub timed-nil : (times : List ℕ) → timed {A = Happening} times [] ≡ []
+pub timed-nil : (times : List ℕ) → timed {A = SlaveHappening} times [] ≡ []
 unfolding timed
 timed-nil times = refl
 
-pub timed-cons : (times : List ℕ) (act : ℕ → Happening) (acts : List (ℕ → Happening)) → timed times (act ∷ acts) ≡ act (next_of times) ∷ timed (after_first times) acts
+pub timed-cons : (times : List ℕ) (act : ℕ → SlaveHappening) (acts : List (ℕ → SlaveHappening)) → timed times (act ∷ acts) ≡ act (next_of times) ∷ timed (after_first times) acts
 unfolding timed
 timed-cons times act acts = refl
 
@@ -27,7 +27,7 @@ moments_after-add (suc m) n times =
     ap (moments_after n) (moments_after-suc m times) ∙ moments_after-add m n (after_first times) ∙ sym (moments_after-suc (m + n) times)
     ∙ ap (λ k. moments_after k times) (omega arith)
 
-pub timed-append : (times : List ℕ) (acts more : List (ℕ → Happening)) → timed times (acts ++ more) ≡ timed times acts ++ timed (moments_after (length acts) times) more
+pub timed-append : (times : List ℕ) (acts more : List (ℕ → SlaveHappening)) → timed times (acts ++ more) ≡ timed times acts ++ timed (moments_after (length acts) times) more
 timed-append times [] more = sym (ap (λ l. l ++ timed (moments_after 0 times) more) (timed-nil times) ∙ ap (λ ts. timed ts more) (moments_after-zero times))
 timed-append times (act ∷ acts) more =
     timed-cons times act (acts ++ more) ∙ ap (λ l. act (next_of times) ∷ l) (timed-append (after_first times) acts more)
@@ -39,7 +39,7 @@ pub timed_none : (told : Option (List ℕ)) → AreTimed told told [] []
 timed_none None = tt
 timed_none (Some times) = (times, refl, sym (timed-nil times), sym (moments_after-zero times))
 
-pub timed_more : (before now after : Option (List ℕ)) (acts more : List (ℕ → Happening)) (hs ks : List Happening)
+pub timed_more : (before now after : Option (List ℕ)) (acts more : List (ℕ → SlaveHappening)) (hs ks : List SlaveHappening)
     → AreTimed before now acts hs → AreTimed now after more ks → AreTimed before after (acts ++ more) (hs ++ ks)
 timed_more before now None acts more hs ks p q = tt
 timed_more before None (Some later) acts more hs ks p q = absurd (cc (q.1))
@@ -53,7 +53,7 @@ timed_more before (Some middle) (Some later) acts more hs ks p q =
     )
 
 -- one thing at the moment that a clock answers
-pub timed_one : (before after : Option (List ℕ)) (at : ℕ) (act : ℕ → Happening) → before ≢ Some [] → IsFirstTold before at → IfTold after (option_map after_first before)
+pub timed_one : (before after : Option (List ℕ)) (at : ℕ) (act : ℕ → SlaveHappening) → before ≢ Some [] → IsFirstTold before at → IfTold after (option_map after_first before)
     → AreTimed before after (act ∷ []) (act at ∷ [])
 timed_one before None at act never first rest = tt
 timed_one None (Some later) at act never first rest = absurd (cc rest)

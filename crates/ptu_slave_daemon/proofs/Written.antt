@@ -5,14 +5,14 @@ use Rattle.std.specs.Prelude.{◌==◌}
 use Rattle.ptu_outside.specs.Handing.{HasPut, HasPutPart}
 use Rattle.ptu_outside.proofs.Putting.{HasPut-append, HasPut-part}
 use Rattle.ptu_slave_daemon.specs.{declared.line.SlaveLine.{SlaveLine}, Happenings.{Selection}}
-use Rattle.ptu_slave_daemon.specs.Lines.{changes, is_said, is_same, line_text, said_next, selected_line, texts_of}
+use Rattle.ptu_slave_daemon.specs.Lines.{changes, is_said, is_same_selection, slave_line_text, said_next, selected_line, slave_texts}
 
 -- what was written last once these selections were made
 abbrev pub said_after : Option (Option ℕ) → List Selection → Option (Option ℕ)
 said_after said [] = said
 said_after said (s ∷ later) = said_after (Some s.master) later
 
-same_is : (a b : Option ℕ) → is_same a b ≡ true → a ≡ b
+same_is : (a b : Option ℕ) → is_same_selection a b ≡ true → a ≡ b
 same_is None None is = refl
 same_is None (Some b) is = absurd (cc is)
 same_is (Some a) None is = absurd (cc is)
@@ -56,36 +56,36 @@ changes-append said (x ∷ ss) ts = pick (is_said said x.master) refl (changes-a
     pick false is same other = ap (λ l. x ∷ l) other
 
 pub texts-push : (said : Option (Option ℕ)) (ss : List Selection) (s : Selection)
-    → texts_of (map selected_line (changes said (ss ++ s ∷ []))) ≡ texts_of (map selected_line (changes said ss)) ++ texts_of (map selected_line (said_next (said_after said ss) s))
+    → slave_texts (map selected_line (changes said (ss ++ s ∷ []))) ≡ slave_texts (map selected_line (changes said ss)) ++ slave_texts (map selected_line (said_next (said_after said ss) s))
 texts-push said ss s =
-    ap (λ l. texts_of (map selected_line l)) (changes-push said ss s)
-    ∙ ap texts_of (map-append selected_line (changes said ss) (said_next (said_after said ss) s))
-    ∙ map-append line_text (map selected_line (changes said ss)) (map selected_line (said_next (said_after said ss) s))
+    ap (λ l. slave_texts (map selected_line l)) (changes-push said ss s)
+    ∙ ap slave_texts (map-append selected_line (changes said ss) (said_next (said_after said ss) s))
+    ∙ map-append slave_line_text (map selected_line (changes said ss)) (map selected_line (said_next (said_after said ss) s))
 
 -- ---- written behind what was written
 
 module _ {K : Type 0} (written : K → Option (List ℕ)) (handed : K → Option (List (List ℕ))) (old mid new : K) where
   -- one line more
-  pub put_behind : (lines : List SlaveLine) (line : SlaveLine) → HasPut written handed old mid (texts_of lines) → HasPut written handed mid new (texts_of (line ∷ []))
-      → HasPut written handed old new (texts_of (lines ++ line ∷ []))
-  put_behind lines line p q = subst (HasPut written handed old new) (sym (map-append line_text lines (line ∷ [])))
-      (HasPut-append written handed old mid new (texts_of lines) (texts_of (line ∷ [])) p q)
+  pub put_behind : (lines : List SlaveLine) (line : SlaveLine) → HasPut written handed old mid (slave_texts lines) → HasPut written handed mid new (slave_texts (line ∷ []))
+      → HasPut written handed old new (slave_texts (lines ++ line ∷ []))
+  put_behind lines line p q = subst (HasPut written handed old new) (sym (map-append slave_line_text lines (line ∷ [])))
+      (HasPut-append written handed old mid new (slave_texts lines) (slave_texts (line ∷ [])) p q)
 
   -- or a part of it
-  pub part_behind : (lines : List SlaveLine) (line : SlaveLine) → HasPut written handed old mid (texts_of lines) → HasPutPart written handed mid new (texts_of (line ∷ []))
-      → HasPutPart written handed old new (texts_of (lines ++ line ∷ []))
-  part_behind lines line p q = subst (HasPutPart written handed old new) (sym (map-append line_text lines (line ∷ [])))
-      (HasPut-part written handed old mid new (texts_of lines) (texts_of (line ∷ [])) p q)
+  pub part_behind : (lines : List SlaveLine) (line : SlaveLine) → HasPut written handed old mid (slave_texts lines) → HasPutPart written handed mid new (slave_texts (line ∷ []))
+      → HasPutPart written handed old new (slave_texts (lines ++ line ∷ []))
+  part_behind lines line p q = subst (HasPutPart written handed old new) (sym (map-append slave_line_text lines (line ∷ [])))
+      (HasPut-part written handed old mid new (slave_texts lines) (slave_texts (line ∷ [])) p q)
 
   -- the line of one selection more
-  pub selection_behind : (said : Option (Option ℕ)) (ss : List Selection) (s : Selection) → said ≡ said_after None ss → HasPut written handed old mid (texts_of (map selected_line (changes None ss)))
-      → HasPut written handed mid new (texts_of (map selected_line (said_next said s))) → HasPut written handed old new (texts_of (map selected_line (changes None (ss ++ s ∷ []))))
+  pub selection_behind : (said : Option (Option ℕ)) (ss : List Selection) (s : Selection) → said ≡ said_after None ss → HasPut written handed old mid (slave_texts (map selected_line (changes None ss)))
+      → HasPut written handed mid new (slave_texts (map selected_line (said_next said s))) → HasPut written handed old new (slave_texts (map selected_line (changes None (ss ++ s ∷ []))))
   selection_behind said ss s is p q = subst (HasPut written handed old new) (sym (texts-push None ss s))
-      (HasPut-append written handed old mid new (texts_of (map selected_line (changes None ss))) (texts_of (map selected_line (said_next (said_after None ss) s))) p
-      (subst (λ last. HasPut written handed mid new (texts_of (map selected_line (said_next last s)))) is q))
+      (HasPut-append written handed old mid new (slave_texts (map selected_line (changes None ss))) (slave_texts (map selected_line (said_next (said_after None ss) s))) p
+      (subst (λ last. HasPut written handed mid new (slave_texts (map selected_line (said_next last s)))) is q))
 
-  pub part_of_selection : (said : Option (Option ℕ)) (ss : List Selection) (s : Selection) → said ≡ said_after None ss → HasPut written handed old mid (texts_of (map selected_line (changes None ss)))
-      → HasPutPart written handed mid new (texts_of (map selected_line (said_next said s))) → HasPutPart written handed old new (texts_of (map selected_line (changes None (ss ++ s ∷ []))))
+  pub part_of_selection : (said : Option (Option ℕ)) (ss : List Selection) (s : Selection) → said ≡ said_after None ss → HasPut written handed old mid (slave_texts (map selected_line (changes None ss)))
+      → HasPutPart written handed mid new (slave_texts (map selected_line (said_next said s))) → HasPutPart written handed old new (slave_texts (map selected_line (changes None (ss ++ s ∷ []))))
   part_of_selection said ss s is p q = subst (HasPutPart written handed old new) (sym (texts-push None ss s))
-      (HasPut-part written handed old mid new (texts_of (map selected_line (changes None ss))) (texts_of (map selected_line (said_next (said_after None ss) s))) p
-      (subst (λ last. HasPutPart written handed mid new (texts_of (map selected_line (said_next last s)))) is q))
+      (HasPut-part written handed old mid new (slave_texts (map selected_line (changes None ss))) (slave_texts (map selected_line (said_next (said_after None ss) s))) p
+      (subst (λ last. HasPutPart written handed mid new (slave_texts (map selected_line (said_next last s)))) is q))

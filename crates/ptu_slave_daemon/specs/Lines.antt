@@ -8,7 +8,7 @@ use Rattle.ptu_config.specs.{declared.settings.SlaveSettings.{SlaveSettings}, Ro
 use Rattle.ptu_slave_daemon.specs.declared.line.SlaveLine.{SlaveLine}
 use Rattle.ptu_slave_daemon.specs.declared.line.SlaveLine.TheVariants.{Selected, Closing}
 use Rattle.ptu_slave_daemon.specs.Opening.{node_of}
-use Rattle.ptu_slave_daemon.specs.Happenings.{Happening, Selection, selections_in, sent_in}
+use Rattle.ptu_slave_daemon.specs.Happenings.{SlaveHappening, Selection, selections_in, sent_by_happenings}
 
 -- the address of the master that is selected, or `none`
 abbrev pub master_text : Option ℕ → List ℕ
@@ -16,23 +16,23 @@ master_text None = codes "none"
 master_text (Some ip) = address_text ip
 
 -- a line, with the 0A at its end
-abbrev pub line_text : SlaveLine → List ℕ
-line_text (Selected round master) =
+abbrev pub slave_line_text : SlaveLine → List ℕ
+slave_line_text (Selected round master) =
     codes "round " ++ (decimal round ++ (codes " selected " ++ (master_text master ++ codes "\n")))
-line_text (Closing rounds sent failed) =
+slave_line_text (Closing rounds sent failed) =
     codes "rounds " ++ (decimal rounds ++ (codes " sent " ++ (decimal sent
     ++ (codes " failed " ++ (decimal failed ++ codes "\n")))))
 
 -- two selections are of one master, or both of none
-abbrev pub is_same : Option ℕ → Option ℕ → Bool
-is_same None None = true
-is_same (Some a) (Some b) = a == b
-is_same _ _ = false
+abbrev pub is_same_selection : Option ℕ → Option ℕ → Bool
+is_same_selection None None = true
+is_same_selection (Some a) (Some b) = a == b
+is_same_selection _ _ = false
 
 -- this was written last
 abbrev pub is_said : Option (Option ℕ) → Option ℕ → Bool
 is_said None master = false
-is_said (Some last) master = is_same last master
+is_said (Some last) master = is_same_selection last master
 
 -- the selections that are written: the first, and each that differs from the last one written, where one was
 abbrev pub changes : Option (Option ℕ) → List Selection → List Selection
@@ -51,13 +51,13 @@ abbrev pub output : ℕ → List Selection → (sent failed : ℕ) → List Slav
 output rounds selections sent failed = map selected_line selections ++ Closing rounds sent failed ∷ []
 
 -- that of so many rounds in which all this happens to the slave after this record, where no port fails
-abbrev pub output_from : ℕ → Node → Record → List Happening → List SlaveLine
+abbrev pub output_from : ℕ → Node → Record → List SlaveHappening → List SlaveLine
 output_from rounds node L hs =
-    output rounds (changes None (selections_in node L hs)) (length (sent_in node L hs)) 0
+    output rounds (changes None (selections_in node L hs)) (length (sent_by_happenings node L hs)) 0
 
 -- that of a daemon with these settings
-abbrev pub output_of : SlaveSettings → List Happening → List SlaveLine
-output_of s hs = output_from (all_slave_rounds s) (node_of s) [] hs
+abbrev pub slave_output_of : SlaveSettings → List SlaveHappening → List SlaveLine
+slave_output_of s hs = output_from (all_slave_rounds s) (node_of s) [] hs
 
-abbrev pub texts_of : List SlaveLine → List (List ℕ)
-texts_of lines = map line_text lines
+abbrev pub slave_texts : List SlaveLine → List (List ℕ)
+slave_texts lines = map slave_line_text lines

@@ -7,8 +7,8 @@ use Rattle.ptu_profile.specs.declared.slave.{Master.{Master}, SlaveConfig.{Slave
 use Rattle.ptu_slave_messages.specs.Node.{Node}
 
 -- what the slave is set up with
-abbrev pub config_of : SlaveSettings → SlaveConfig
-config_of s = record {
+abbrev pub slave_config_of : SlaveSettings → SlaveConfig
+slave_config_of s = record {
   identity = record { clock = s.clock; port = s.port };
   domain = s.domain;
   wants = record { announce = s.log_announce; sync = s.log_sync; delay = s.log_delay; seconds = s.duration };
@@ -19,18 +19,18 @@ config_of s = record {
 }
 
 -- a master, and the rule of its judge
-abbrev pub master_of : MasterSetting → Master
-master_of m = record { ip = m.ip; priority = m.priority }
+abbrev pub watched_master_of : MasterSetting → Master
+watched_master_of m = record { ip = m.ip; priority = m.priority }
 
-abbrev pub rule_of : MasterSetting → Rule
-rule_of m = cond m.gap (Gap 4) Flag
+abbrev pub judge_rule_of : MasterSetting → Rule
+judge_rule_of m = cond m.gap (Gap 4) Flag
 
 -- the slave, whose judges are all fresh
 abbrev pub node_of : SlaveSettings → Node
 node_of s = record {
-  config = config_of s;
-  masters = map master_of s.masters;
-  openings = map (λ m. Some (rule_of m)) s.masters;
+  config = slave_config_of s;
+  masters = map watched_master_of s.masters;
+  openings = map (λ m. Some (judge_rule_of m)) s.masters;
 }
 
 -- so many judges of the rule Flag, and so many of the rule Gap, are enough for these masters

@@ -11,7 +11,7 @@ use Rattle.ptu_slave.specs.{Kept.{Kept}, Seen.{Seen}, Standing.{StandsFor}}
 use Rattle.ptu_rounds.specs.{Handed.{SentPart}, Rounds.{in_rounds, left_after, moments_after, timed}}
 use Rattle.ptu_rounds.specs.Taken.{Gave, HappenedAt, HaveTaken, Round, event_of, general_of}
 use Rattle.ptu_slave_daemon.specs.declared.{counts.Counts.{Counts}, line.SlaveLine.{SlaveLine}}
-use Rattle.ptu_slave_daemon.specs.Happenings.{Happening, Stops, acts_of, arrive, Selection, happenings, record_after, round_of, selections_in, sent_in}
+use Rattle.ptu_slave_daemon.specs.Happenings.{SlaveHappening, Stops, happenings_of_rounds, arrive, Selection, happenings, record_by_happenings, slave_round_of, selections_in, sent_by_happenings}
 use Rattle.ptu_slave_daemon.specs.Lines.{output_from}
 
 -- ---- counts
@@ -21,8 +21,8 @@ abbrev pub IsFew : ℕ → Counts → Type 0
 IsFew n counts = (counts.sent + n < 2 ^ 128) × (counts.failed + n < 2 ^ 128)
 
 -- at most so many were counted
-abbrev pub Grows : ℕ → Counts → Counts → Type 0
-Grows n old new = (new.sent ≤ old.sent + n) × (new.failed ≤ old.failed + n)
+abbrev pub CountsGrow : ℕ → Counts → Counts → Type 0
+CountsGrow n old new = (new.sent ≤ old.sent + n) × (new.failed ≤ old.failed + n)
 
 -- so many were counted
 abbrev pub Counted : (sent failed : ℕ) → Counts → Counts → Type 0
@@ -59,7 +59,7 @@ pub record RoundTook (before after : Option (List Arrival)) (old new : ℕ) (arr
 -- ---- moments
 
 -- these happened each at a new moment of a clock that told these moments before, and tells these after
-abbrev pub AreTimed : Option (List ℕ) → Option (List ℕ) → List (ℕ → Happening) → List Happening → Type 0
+abbrev pub AreTimed : Option (List ℕ) → Option (List ℕ) → List (ℕ → SlaveHappening) → List SlaveHappening → Type 0
 AreTimed before after acts hs =
     IfSome after (λ later. (times : List ℕ) × (before ≡ Some times) × (hs ≡ timed times acts)
     × (later ≡ moments_after (length acts) times))
@@ -84,31 +84,31 @@ pub record View : Type 0 where
 
 -- from the record L on these happened to the slave: it stands for the record after them, its port was handed what is sent
 -- then, and it selected this
-pub record Ran (once : Bool) (node : Node) (L : Record) (old new : View) (acts : List (ℕ → Happening)) (hs : List Happening)
+pub record SlaveRan (once : Bool) (node : Node) (L : Record) (old new : View) (acts : List (ℕ → SlaveHappening)) (hs : List SlaveHappening)
     (selections : List Selection) (sent failed missed : ℕ) : Type 0 where
   pub happened : HappenedAt acts hs
   pub timed : AreTimed old.times new.times acts hs
-  pub stands : IsAt node new.kept new.judges (record_after node L hs)
-  pub port : PortDid once old.sent new.sent old.faults new.faults (sent_in node L hs) sent failed missed
+  pub stands : IsAt node new.kept new.judges (record_by_happenings node L hs)
+  pub port : PortDid once old.sent new.sent old.faults new.faults (sent_by_happenings node L hs) sent failed missed
   pub selects : selections_in node L hs ≡ selections
 
 -- these arrivals were taken, of which no selection came
-abbrev pub Took : Bool → Node → Record → View → View → List Arrival → (sent failed missed : ℕ) → Type 0
-Took once node L old new arrivals sent failed missed =
-    (hs : List Happening) × Ran once node L old new (map arrive arrivals) hs [] sent failed missed
+abbrev pub SlaveTook : Bool → Node → Record → View → View → List Arrival → (sent failed missed : ℕ) → Type 0
+SlaveTook once node L old new arrivals sent failed missed =
+    (hs : List SlaveHappening) × SlaveRan once node L old new (map arrive arrivals) hs [] sent failed missed
 
 -- ---- rounds
 
 -- after so many rounds, where no port has failed and all is still told, what happened is what the rounds say of all that
 -- waited, and what waits is the rest
-abbrev pub AreRounds : ℕ → (general general' event event' : Option (List Arrival))
-    → (faults faults' event_faults event_faults' : ℕ) → List (ℕ → Happening) → Type 0
-AreRounds rounds general general' event event' faults faults' event_faults event_faults' acts =
+abbrev pub AreSlaveRounds : ℕ → (general general' event event' : Option (List Arrival))
+    → (faults faults' event_faults event_faults' : ℕ) → List (ℕ → SlaveHappening) → Type 0
+AreSlaveRounds rounds general general' event event' faults faults' event_faults event_faults' acts =
     ¬ HasRisen faults faults' → ¬ HasRisen event_faults event_faults'
     → (left : List Arrival) (event_left : List Arrival)
     → general' ≡ Some left → event' ≡ Some event_left
     → (all : List Arrival) × (event_all : List Arrival) × (general ≡ Some all) × (event ≡ Some event_all)
-    × (acts ≡ in_rounds (round_of all event_all) rounds)
+    × (acts ≡ in_rounds (slave_round_of all event_all) rounds)
     × (left ≡ left_after rounds all) × (event_left ≡ left_after rounds event_all)
 
 -- ---- as the code sees it
@@ -140,13 +140,13 @@ pub record TookOne (more : Bool) (before after : Option (List Arrival)) (old new
 
 -- what is said of a node's record, of its slave as it was and is seen, of what waited and waits on the general channel and on
 -- the event channel, and of the faults of the latter's port
-abbrev pub Course : Type 1
-Course = Node → Record → (old new : View) → (general general' event event' : Option (List Arrival))
+abbrev pub SlaveCourse : Type 1
+SlaveCourse = Node → Record → (old new : View) → (general general' event event' : Option (List Arrival))
     → (event_faults event_faults' : ℕ) → Type 0
 
 -- so many rounds were gone through, which began at the record L, and after which this was selected; what happened is what
 -- happened in them, with its end
-pub record WentThrough (once : Bool) (ended : List (ℕ → Happening) → List (ℕ → Happening)) (rounds : ℕ) (selections : List Selection)
+pub record WentThrough (once : Bool) (ended : List (ℕ → SlaveHappening) → List (ℕ → SlaveHappening)) (rounds : ℕ) (selections : List Selection)
     (sent failures : ℕ) (node : Node) (L : Record) (old new : View)
     (general general' event event' : Option (List Arrival)) (event_faults event_faults' : ℕ) : Type 0 where
   -- what each round took, whatever failed and whether or not the ports tell
@@ -154,29 +154,29 @@ pub record WentThrough (once : Bool) (ended : List (ℕ → Happening) → List 
   pub taken : HaveTaken took rounds
   pub general_gave : Gave general general' (general_of took)
   pub event_gave : Gave event event' (event_of took)
-  pub hs : List Happening
+  pub hs : List SlaveHappening
   pub failed : ℕ
   pub event_failed : ℕ
   pub failures_are : failures ≡ failed + event_failed
   -- of the general channel so many receives failed; with those of the event channel at most one of each channel and round
   pub missed : ℕ
   pub few : missed + event_failed ≤ 2 * rounds
-  pub ran : Ran once node L old new (ended (acts_of took)) hs selections sent failed missed
+  pub ran : SlaveRan once node L old new (ended (happenings_of_rounds took)) hs selections sent failed missed
   pub event_fails : HasFailed once event_faults event_faults' event_failed
-  pub as_said : AreRounds rounds general general' event event' old.faults new.faults event_faults event_faults' (acts_of took)
+  pub as_said : AreSlaveRounds rounds general general' event event' old.faults new.faults event_faults event_faults' (happenings_of_rounds took)
 
 -- the rounds alone
-abbrev pub RoundsDone : Bool → ℕ → List Selection → (sent failures : ℕ) → Course
+abbrev pub RoundsDone : Bool → ℕ → List Selection → (sent failures : ℕ) → SlaveCourse
 RoundsDone once = WentThrough once (λ acts. acts)
 
 -- and the slave has stopped
-abbrev pub RunDone : Bool → ℕ → List Selection → (sent failures : ℕ) → Course
+abbrev pub RunDone : Bool → ℕ → List Selection → (sent failures : ℕ) → SlaveCourse
 RunDone once = WentThrough once (λ acts. acts ++ Stops ∷ [])
 
 -- ---- fronts of the output
 
 -- where no port has failed and all is still told, these lines are a front of the whole output of so many rounds
-abbrev pub IsFront : ℕ → List SlaveLine → Course
+abbrev pub IsFront : ℕ → List SlaveLine → SlaveCourse
 IsFront rounds lines node L old new general general' event event' event_faults event_faults' =
     (all : List Arrival) (event_all : List Arrival) (times : List ℕ)
     → general ≡ Some all → event ≡ Some event_all → old.times ≡ Some times
@@ -188,7 +188,7 @@ IsFront rounds lines node L old new general general' event event' event_faults e
 
 module _ {P B C : Type 0} (ports : Ports P) (clocks : Clocks C) (old new : Seen P B) (clock clock' : C) where
   -- it is so of the slave, of its port, of the port of the event channel and of the clock, whatever node and record it stood for
-  abbrev pub Went : (event event' : P) → Course → Type 0
+  abbrev pub Went : (event event' : P) → SlaveCourse → Type 0
   Went event event' course = (node : Node) (L : Record) → Stands node old L
       → course node L (sees ports clocks old clock) (sees ports clocks new clock')
       (ports.waiting old.port) (ports.waiting new.port) (ports.waiting event) (ports.waiting event') (ports.faults event) (ports.faults event')
@@ -198,7 +198,7 @@ module _ {P B C : Type 0} (ports : Ports P) (clocks : Clocks C) (old new : Seen 
   TookGeneral Way counts counts' = (node : Node) (L : Record) → Stands node old L
       → (arrivals : List Arrival) × (ok : ℕ) × (failed : ℕ) × (missed : ℕ) × Counted ok failed counts counts'
       × Way (ports.waiting old.port) (ports.waiting new.port) (ports.faults old.port) (ports.faults new.port) arrivals missed
-      × Took ports.counts_once node L (sees ports clocks old clock) (sees ports clocks new clock') arrivals ok failed missed
+      × SlaveTook ports.counts_once node L (sees ports clocks old clock) (sees ports clocks new clock') arrivals ok failed missed
 
   -- of the event channel's port
   abbrev pub TookEvent : (event event' : P) → (Option (List Arrival) → Option (List Arrival) → ℕ → ℕ → List Arrival → ℕ → Type 0) → Counts → Counts → Type 0
@@ -206,4 +206,4 @@ module _ {P B C : Type 0} (ports : Ports P) (clocks : Clocks C) (old new : Seen 
       → (arrivals : List Arrival) × (ok : ℕ) × (failed : ℕ) × (event_failed : ℕ) × Counted ok (failed + event_failed) counts counts'
       × HasFailed ports.counts_once (ports.faults event) (ports.faults event') event_failed
       × Way (ports.waiting event) (ports.waiting event') (ports.faults event) (ports.faults event') arrivals event_failed
-      × Took ports.counts_once node L (sees ports clocks old clock) (sees ports clocks new clock') arrivals ok failed 0
+      × SlaveTook ports.counts_once node L (sees ports clocks old clock) (sees ports clocks new clock') arrivals ok failed 0

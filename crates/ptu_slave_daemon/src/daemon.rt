@@ -6,7 +6,7 @@ ghost use Rattle.ptu_config.specs.{Limits.{IsSlaveInRange}, Rounds.{all_slave_ro
 ghost use Rattle.ptu_judges.specs.Boxes.{IsFreshStock};
 ghost use Rattle.ptu_rounds.specs.Opening.{OpenedAt};
 ghost use Rattle.ptu_slave_daemon.specs.Answers.{CountsOpen, CountsWrite, FailsWith, WasGivenBack, WasOpened};
-ghost use Rattle.ptu_slave_daemon.specs.{Happenings.{Selection}, Lines.{output, texts_of}};
+ghost use Rattle.ptu_slave_daemon.specs.{Happenings.{Selection}, Lines.{output, slave_texts}};
 ghost use Rattle.ptu_slave_daemon.specs.Opening.{are_enough};
 ghost use Rattle.ptu_slave_daemon.specs.Served.{AreAside, HasServed, HasStopped};
 
@@ -39,7 +39,7 @@ fn run_over<P: Port, C: Clock, K: Sink>(
         settings.now opened pair.0 sink.old sink.new)) }
     ensures part { IfOk result (λ pair. OnErr pair.1 ((selections : List Selection) × (sends : ℕ)
         × (failures : ℕ) × HasPutPart K.written K.handed sink.old sink.new
-        (texts_of (output (all_slave_rounds settings.now) selections sends failures)))) }
+        (slave_texts (output (all_slave_rounds settings.now) selections sends failures)))) }
     ensures front { IfOk result (λ pair. OnErr pair.1
         (HasStopped P.Port C.Clock K.written K.handed
         settings.now opened pair.0 sink.old sink.new)) }
@@ -47,7 +47,7 @@ fn run_over<P: Port, C: Clock, K: Sink>(
         (K.faults sink.new)) }
     ensures stopped { OnErr result ((selections : List Selection) × (sends : ℕ) × (failures : ℕ)
         × HasPutPart K.written K.handed sink.old sink.new
-        (texts_of (output (all_slave_rounds settings.now) selections sends failures))) }
+        (slave_texts (output (all_slave_rounds settings.now) selections sends failures))) }
     ensures still { OnErr result (K.faults sink.new ≡ K.faults sink.old) }
 {
     let Opened {
@@ -117,7 +117,7 @@ pub fn slave<H: Host, K: Sink>(
     // and the closing line.
     ensures part { OnErr result ((selections : List Selection) × (sends : ℕ) × (failures : ℕ)
         × HasPutPart K.written K.handed sink.old sink.new
-        (texts_of (output (all_slave_rounds settings.now) selections sends failures))) }
+        (slave_texts (output (all_slave_rounds settings.now) selections sends failures))) }
     // Where nothing was opened nothing is written.
     ensures nothing { IsErrOf result DaemonFault.Open → sink.new ≡ sink.old }
     // Where the sink failed the ports and clocks were given back too; and where they tell all and

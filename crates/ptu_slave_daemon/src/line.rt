@@ -1,7 +1,7 @@
 //! The lines that a slave's daemon writes: each change of its selection, and the closing line.
 
 ghost use Rattle.std.specs.Prelude.{Some};
-ghost use Rattle.ptu_slave_daemon.specs.Lines.{line_text, master_text};
+ghost use Rattle.ptu_slave_daemon.specs.Lines.{slave_line_text, master_text};
 
 use ptu_texts::AddressText;
 use std::fmt;
@@ -43,7 +43,7 @@ pub enum SlaveLine {
 }
 
 impl fmt::Display for SlaveLine {
-    ghost output = { λ l. Some (line_text l) };
+    ghost output = { λ l. Some (slave_line_text l) };
 
     fn fmt<W: fmt::Write>(&self, f: &mut fmt::Formatter<W>) -> fmt::Result {
         match *self {

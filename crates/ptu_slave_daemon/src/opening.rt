@@ -5,7 +5,7 @@ ghost use Rattle.ptu_config.specs.Limits.{IsSlaveInRange};
 ghost use Rattle.ptu_judges.specs.Boxes.{IsFreshStock};
 ghost use Rattle.ptu_judges.specs.Held.{IsStock, fresh};
 ghost use Rattle.ptu_profile.specs.Slave.{IsWithinLimits};
-ghost use Rattle.ptu_slave_daemon.specs.Opening.{are_enough, config_of, master_of, node_of, rule_of};
+ghost use Rattle.ptu_slave_daemon.specs.Opening.{are_enough, slave_config_of, watched_master_of, node_of, judge_rule_of};
 ghost use Rattle.ptu_slave_daemon.specs.Running.{Stands};
 ghost use Rattle.ptu_slave.specs.{Seen.{HasJudges}, SeenBy.{seen_by}};
 
@@ -46,7 +46,7 @@ pub fn has_judges(settings: &SlaveSettings, stock: &Stock) -> bool
 // What the slave is set up with.
 fn new_config(settings: &SlaveSettings) -> SlaveConfig
     requires { IsSlaveInRange settings.now }
-    ensures config { result ≡ config_of settings.now }
+    ensures config { result ≡ slave_config_of settings.now }
     ensures limits { IsWithinLimits result }
 {
     SlaveConfig {
@@ -70,7 +70,7 @@ fn new_config(settings: &SlaveSettings) -> SlaveConfig
 
 // The masters of these settings.
 fn new_masters(alloc: Global, masters: &[MasterSetting]) -> Result<Vec<Master>, OutOfMemory>
-    ensures { IfOk result (λ list. list.items ≡ map master_of masters.now) }
+    ensures { IfOk result (λ list. list.items ≡ map watched_master_of masters.now) }
 {
     let mut list = Vec::new(alloc);
     for master in masters {
@@ -84,7 +84,7 @@ fn new_masters(alloc: Global, masters: &[MasterSetting]) -> Result<Vec<Master>, 
 
 // The rule of the judge of a master.
 fn rule(master: &MasterSetting) -> Rule
-    ensures { result ≡ rule_of master.now }
+    ensures { result ≡ judge_rule_of master.now }
 {
     if master.gap {
         Rule::Gap(NAMED_GAP)
@@ -104,7 +104,7 @@ fn new_judges(
     requires enough { are_enough masters.now
         (length stock.flags.items) (length stock.gaps.items) ≡ true }
     ensures { IfOk result (λ judges. map held judges.items
-        ≡ map (λ m. fresh (rule_of m)) masters.now) }
+        ≡ map (λ m. fresh (judge_rule_of m)) masters.now) }
 {
     let mut judges = Vec::new(alloc);
     for master in masters {

@@ -7,9 +7,9 @@ ghost use Rattle.ptu_record.specs.Record.{Record};
 ghost use Rattle.ptu_config.specs.Rounds.{IsRoundCount};
 ghost use Rattle.ptu_slave_messages.specs.Node.{Node};
 ghost use Rattle.ptu_slave_daemon.specs.{declared.line.SlaveLine.{SlaveLine}, Answers.{Halts}};
-ghost use Rattle.ptu_slave_daemon.specs.Happenings.{Happening, Selection, Ticks, arrive};
-ghost use Rattle.ptu_slave_daemon.specs.Lines.{changes, output, selected_line, texts_of};
-ghost use Rattle.ptu_slave_daemon.specs.Running.{Counted, Grows, HasFailed, IsFew, IsFront, Ran, RoundTook, RoundsDone, RunDone, Stands, Went, sees};
+ghost use Rattle.ptu_slave_daemon.specs.Happenings.{SlaveHappening, Selection, Ticks, arrive};
+ghost use Rattle.ptu_slave_daemon.specs.Lines.{changes, output, selected_line, slave_texts};
+ghost use Rattle.ptu_slave_daemon.specs.Running.{Counted, CountsGrow, HasFailed, IsFew, IsFront, SlaveRan, RoundTook, RoundsDone, RunDone, Stands, Went, sees};
 ghost use Rattle.ptu_slave.specs.{Seen.{HasJudges}, SeenBy.{seen_by}};
 
 use crate::counts::Counts;
@@ -32,11 +32,11 @@ fn happen<P: Port, C: Clock>(
     counts: &mut Counts,
 ) -> Result<Option<u32>, OutOfMemory>
     requires few { IsFew (2 ^ 65) counts.old }
-    ensures grows { Grows (2 ^ 65) counts.old counts.new }
+    ensures grows { CountsGrow (2 ^ 65) counts.old counts.new }
     ensures sent { P.sent event.new ≡ P.sent event.old }
     ensures ran { IfOk result (λ master. (node : Node) (L : Record) (round : ℕ) →
         Stands node (seen_by held slave.old) L →
-        (arrivals : List Arrival) × (event_arrivals : List Arrival) × (hs : List Happening)
+        (arrivals : List Arrival) × (event_arrivals : List Arrival) × (hs : List SlaveHappening)
         × (sent : ℕ) × (failed : ℕ) × (event_failed : ℕ) × (missed : ℕ)
         × Counted sent (failed + event_failed) counts.old counts.new
         × HasFailed P.counts_once (P.faults event.old) (P.faults event.new) event_failed
@@ -44,7 +44,7 @@ fn happen<P: Port, C: Clock>(
         (P.faults (seen_by held slave.old).port) (P.faults (seen_by held slave.new).port) arrivals missed
         × RoundTook (P.waiting event.old) (P.waiting event.new)
         (P.faults event.old) (P.faults event.new) event_arrivals event_failed
-        × Ran P.counts_once node L (sees P.Port C.Clock (seen_by held slave.old) clock.old)
+        × SlaveRan P.counts_once node L (sees P.Port C.Clock (seen_by held slave.old) clock.old)
         (sees P.Port C.Clock (seen_by held slave.new) clock.new)
         (map arrive (arrivals ++ event_arrivals) ++ Ticks round ∷ []) hs
         (record { round = round; master = master } ∷ []) sent failed missed) }
@@ -68,17 +68,17 @@ fn run_rounds<P: Port, C: Clock, K: Sink>(
     ensures sent { P.sent event.new ≡ P.sent event.old }
     ensures done { IfOk result (λ counts. (selections : List Selection)
         × HasPut K.written K.handed sink.old sink.new
-        (texts_of (map selected_line (changes None selections)))
+        (slave_texts (map selected_line (changes None selections)))
         × Went P.Port C.Clock (seen_by held slave.old)
         (seen_by held slave.new) clock.old clock.new event.old event.new
         (RoundsDone P.counts_once rounds selections counts.sent counts.failed)) }
     ensures part { OnErr result ((selections : List Selection)
         × HasPutPart K.written K.handed sink.old sink.new
-        (texts_of (map selected_line selections))) }
+        (slave_texts (map selected_line selections))) }
     ensures stopped { IsErrOf result Halt.Write → (n : ℕ) × (selections : List Selection)
         × (sends : ℕ) × (failures : ℕ) × (n ≤ rounds)
         × HasPutPart K.written K.handed sink.old sink.new
-        (texts_of (map selected_line (changes None selections)))
+        (slave_texts (map selected_line (changes None selections)))
         × Went P.Port C.Clock (seen_by held slave.old)
         (seen_by held slave.new) clock.old clock.new event.old event.new
         (RoundsDone P.counts_once n selections sends failures) }
@@ -113,15 +113,15 @@ pub(crate) fn run<P: Port, C: Clock, K: Sink>(
     ensures sent { P.sent event.new ≡ P.sent event.old }
     ensures done { OnOk result ((selections : List Selection) × (sends : ℕ) × (failures : ℕ)
         × HasPut K.written K.handed sink.old sink.new
-        (texts_of (output rounds (changes None selections) sends failures))
+        (slave_texts (output rounds (changes None selections) sends failures))
         × Went P.Port C.Clock (seen_by held slave.old)
         (seen_by held slave.new) clock.old clock.new event.old event.new
         (RunDone P.counts_once rounds selections sends failures)) }
     ensures part { OnErr result ((selections : List Selection) × (sends : ℕ) × (failures : ℕ)
         × HasPutPart K.written K.handed sink.old sink.new
-        (texts_of (output rounds selections sends failures))) }
+        (slave_texts (output rounds selections sends failures))) }
     ensures stopped { IsErrOf result Halt.Write → (lines : List SlaveLine)
-        × HasPutPart K.written K.handed sink.old sink.new (texts_of lines)
+        × HasPutPart K.written K.handed sink.old sink.new (slave_texts lines)
         × Went P.Port C.Clock (seen_by held slave.old)
         (seen_by held slave.new) clock.old clock.new event.old event.new
         (IsFront rounds lines) }

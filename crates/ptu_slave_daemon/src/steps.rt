@@ -5,8 +5,8 @@ ghost use Rattle.ptu_record.specs.Record.{Record};
 ghost use Rattle.ptu_slave.specs.SeenBy.{seen_by};
 ghost use Rattle.ptu_outside.specs.Replies.{reply_failed, reply_sent};
 ghost use Rattle.ptu_slave_messages.specs.{Heard.{reply_in}, Node.{Node}};
-ghost use Rattle.ptu_slave_daemon.specs.Happenings.{Happening, Stops, Ticks};
-ghost use Rattle.ptu_slave_daemon.specs.Running.{Counted, Grows, IsFew, Ran, Stands, Took, sees};
+ghost use Rattle.ptu_slave_daemon.specs.Happenings.{SlaveHappening, Stops, Ticks};
+ghost use Rattle.ptu_slave_daemon.specs.Running.{Counted, CountsGrow, IsFew, SlaveRan, Stands, SlaveTook, sees};
 
 use crate::counts::Counts;
 use ptu_outside::{Clock, Port, Reply};
@@ -23,7 +23,7 @@ const SLACK: u64 = 1_100_000;
 // Counts what became of the reply to a datagram.
 fn count_reply(counts: &mut Counts, heard: &Heard)
     requires few { IsFew 1 counts.old }
-    ensures grows { Grows 1 counts.old counts.new }
+    ensures grows { CountsGrow 1 counts.old counts.new }
     ensures counted { Counted (reply_sent (reply_in heard.now)) (reply_failed (reply_in heard.now))
         counts.old counts.new }
 {
@@ -49,13 +49,13 @@ pub(crate) fn take<P: Port, C: Clock>(
     counts: &mut Counts,
 ) -> Result<(), OutOfMemory>
     requires few { IsFew 1 counts.old }
-    ensures grows { Grows 1 counts.old counts.new }
+    ensures grows { CountsGrow 1 counts.old counts.new }
     ensures waiting { P.waiting (seen_by held slave.new).port ≡ P.waiting
         (seen_by held slave.old).port }
     ensures ran { OnOk result ((node : Node) (L : Record) → Stands node
         (seen_by held slave.old) L →
         (sent : ℕ) × (failed : ℕ) × Counted sent failed counts.old counts.new
-        × Took P.counts_once node L
+        × SlaveTook P.counts_once node L
         (sees P.Port C.Clock (seen_by held slave.old) clock.old)
         (sees P.Port C.Clock (seen_by held slave.new) clock.new)
         (record { ip = from; bytes = octets.now } ∷ []) sent failed 0) }
@@ -80,7 +80,7 @@ pub(crate) fn tick<P: Port, C: Clock>(
     counts: &mut Counts,
 ) -> Option<u32>
     requires few { IsFew (2 ^ 64) counts.old }
-    ensures grows { Grows (2 ^ 64) counts.old counts.new }
+    ensures grows { CountsGrow (2 ^ 64) counts.old counts.new }
     ensures sent { P.sent event.new ≡ P.sent event.old }
     ensures event_waiting { P.waiting event.new ≡ P.waiting event.old }
     ensures event_quiet { P.faults event.new ≡ P.faults event.old }
@@ -88,9 +88,9 @@ pub(crate) fn tick<P: Port, C: Clock>(
         (seen_by held slave.old).port }
     ensures ran { (node : Node) (L : Record) (round : ℕ) → Stands node
         (seen_by held slave.old) L →
-        (sent : ℕ) × (failed : ℕ) × (hs : List Happening)
+        (sent : ℕ) × (failed : ℕ) × (hs : List SlaveHappening)
         × Counted sent failed counts.old counts.new
-        × Ran P.counts_once node L
+        × SlaveRan P.counts_once node L
         (sees P.Port C.Clock (seen_by held slave.old) clock.old)
         (sees P.Port C.Clock (seen_by held slave.new) clock.new)
         (Ticks round ∷ []) hs (record { round = round; master = result } ∷ []) sent failed 0 }
@@ -111,9 +111,9 @@ pub(crate) fn stop<P: Port, C: Clock>(slave: &mut Slave<P>, clock: &mut C, count
         (seen_by held slave.old).port }
     ensures ran { (node : Node) (L : Record) → Stands node (seen_by held slave.old) L
         →
-        (sent : ℕ) × (failed : ℕ) × (hs : List Happening)
+        (sent : ℕ) × (failed : ℕ) × (hs : List SlaveHappening)
         × Counted sent failed counts.old counts.new
-        × Ran P.counts_once node L
+        × SlaveRan P.counts_once node L
         (sees P.Port C.Clock (seen_by held slave.old) clock.old)
         (sees P.Port C.Clock (seen_by held slave.new) clock.new)
         (Stops ∷ []) hs [] sent failed 0 }

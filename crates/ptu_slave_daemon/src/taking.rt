@@ -1,7 +1,7 @@
 //! What waits on a channel is taken, at most 64 datagrams a round.
 
 ghost use Rattle.std.specs.Prelude.{◌≡◌, map, IfOk, OnOk};
-ghost use Rattle.ptu_slave_daemon.specs.Running.{Grows, IsFew, RoundTook, TookEvent, TookGeneral, TookOne};
+ghost use Rattle.ptu_slave_daemon.specs.Running.{CountsGrow, IsFew, RoundTook, TookEvent, TookGeneral, TookOne};
 ghost use Rattle.ptu_slave.specs.SeenBy.{seen_by};
 
 use crate::counts::Counts;
@@ -24,7 +24,7 @@ fn take_general<P: Port, C: Clock>(
     counts: &mut Counts,
 ) -> Result<bool, OutOfMemory>
     requires few { IsFew 1 counts.old }
-    ensures grows { Grows 1 counts.old counts.new }
+    ensures grows { CountsGrow 1 counts.old counts.new }
     ensures took { IfOk result (λ more. TookGeneral P.Port C.Clock
         (seen_by held slave.old) (seen_by held slave.new)
         clock.old clock.new (TookOne more) counts.old counts.new) }
@@ -52,7 +52,7 @@ fn take_event<P: Port, C: Clock>(
     counts: &mut Counts,
 ) -> Result<bool, OutOfMemory>
     requires few { IsFew 1 counts.old }
-    ensures grows { Grows 1 counts.old counts.new }
+    ensures grows { CountsGrow 1 counts.old counts.new }
     ensures waiting { P.waiting (seen_by held slave.new).port ≡ P.waiting
         (seen_by held slave.old).port }
     ensures sent { P.sent event.new ≡ P.sent event.old }
@@ -85,7 +85,7 @@ pub(crate) fn take_all_general<P: Port, C: Clock>(
     counts: &mut Counts,
 ) -> Result<(), OutOfMemory>
     requires few { IsFew 64 counts.old }
-    ensures grows { Grows 64 counts.old counts.new }
+    ensures grows { CountsGrow 64 counts.old counts.new }
     ensures took { OnOk result (TookGeneral P.Port C.Clock
         (seen_by held slave.old) (seen_by held slave.new)
         clock.old clock.new RoundTook counts.old counts.new) }
@@ -110,7 +110,7 @@ pub(crate) fn take_all_event<P: Port, C: Clock>(
     counts: &mut Counts,
 ) -> Result<(), OutOfMemory>
     requires few { IsFew 64 counts.old }
-    ensures grows { Grows 64 counts.old counts.new }
+    ensures grows { CountsGrow 64 counts.old counts.new }
     ensures waiting { P.waiting (seen_by held slave.new).port ≡ P.waiting
         (seen_by held slave.old).port }
     ensures sent { P.sent event.new ≡ P.sent event.old }

@@ -4,7 +4,7 @@ ghost use Rattle.std.specs.Prelude.{◌≡◌, [], ◌∷◌, cond, map, IfOk, O
 ghost use Rattle.std.specs.String.{string_bytes};
 ghost use Rattle.ptu_outside.specs.Handing.{HasPut, HasPutPart};
 ghost use Rattle.ptu_slave_daemon.specs.Answers.{Halts};
-ghost use Rattle.ptu_slave_daemon.specs.Lines.{is_said, is_same, line_text, said_next, selected_line, texts_of};
+ghost use Rattle.ptu_slave_daemon.specs.Lines.{is_said, is_same_selection, slave_line_text, said_next, selected_line, slave_texts};
 
 use crate::halt::Halt;
 use crate::line::SlaveLine;
@@ -15,7 +15,7 @@ use std::fmt::Write;
 
 // The text of a line.
 fn text_of(alloc: Global, line: SlaveLine) -> Result<String, OutOfMemory>
-    ensures { IfOk result (λ text. string_bytes text ≡ line_text line) }
+    ensures { IfOk result (λ text. string_bytes text ≡ slave_line_text line) }
 {
     let mut text = String::new(alloc);
     write!(text, "{line}")?;
@@ -28,9 +28,9 @@ fn text_of(alloc: Global, line: SlaveLine) -> Result<String, OutOfMemory>
 /// `Write` if the sink failed: a prefix of the line was written then. `OutOfMemory`: nothing was.
 pub(crate) fn write_line<K: Sink>(alloc: Global, sink: &mut K, line: SlaveLine) -> Result<(), Halt>
     ensures whole { OnOk result (HasPut K.written K.handed sink.old sink.new
-        (texts_of (line ∷ []))) }
+        (slave_texts (line ∷ []))) }
     ensures part { OnErr result (HasPutPart K.written K.handed sink.old sink.new
-        (texts_of (line ∷ []))) }
+        (slave_texts (line ∷ []))) }
     ensures counts { Halts result (K.faults sink.old) (K.faults sink.new) }
 {
     let Ok(text) = text_of(alloc, line) else {
@@ -44,7 +44,7 @@ pub(crate) fn write_line<K: Sink>(alloc: Global, sink: &mut K, line: SlaveLine) 
 
 // Whether two selections are of one master, or both of none.
 fn is_same_as(last: Option<u32>, master: Option<u32>) -> bool
-    ensures { result ≡ is_same last master }
+    ensures { result ≡ is_same_selection last master }
 {
     match (last, master) {
         (None, None) => true,
@@ -75,10 +75,10 @@ pub(crate) fn say<K: Sink>(
     master: Option<u32>,
 ) -> Result<(), Halt>
     ensures whole { OnOk result (HasPut K.written K.handed sink.old sink.new
-        (texts_of (map selected_line
+        (slave_texts (map selected_line
         (said_next said (record { round = round; master = master }))))) }
     ensures part { OnErr result (HasPutPart K.written K.handed sink.old sink.new
-        (texts_of (map selected_line
+        (slave_texts (map selected_line
         (said_next said (record { round = round; master = master }))))) }
     ensures counts { Halts result (K.faults sink.old) (K.faults sink.new) }
 {

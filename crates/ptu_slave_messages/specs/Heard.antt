@@ -20,7 +20,7 @@ use Rattle.ptu_outside.specs.declared.reply.{Reply.{Reply}, Reply.TheVariants.{S
 use Rattle.ptu_slave_messages.specs.declared.reason.SlaveReason.{SlaveReason}
 use Rattle.ptu_slave_messages.specs.declared.signal.Signal.{Signal}
 use Rattle.ptu_slave_messages.specs.declared.signal.Signal.TheVariants.{Grant, Denial, Cancel, Ack}
-use Rattle.ptu_slave_messages.specs.Sending.{departure_of}
+use Rattle.ptu_slave_messages.specs.Sending.{sending_departure}
 
 -- ---- the event
 
@@ -52,7 +52,7 @@ replies_to m message = elim message.body as (λ _. List Sending) [
 
 -- the datagrams of the reply to a message
 abbrev pub reply_datagrams : SlaveConfig → List Master → ℕ × Message → List Departure
-reply_datagrams config masters (m, message) = map (departure_of config masters message.header.source) (replies_to m message)
+reply_datagrams config masters (m, message) = map (sending_departure config masters message.header.source) (replies_to m message)
 
 -- the same of a datagram, by what it is to the slave
 abbrev pub replies_in : SlaveConfig → List Master → Result (ℕ × Message) SlaveReason → List Departure

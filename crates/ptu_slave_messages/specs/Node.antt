@@ -11,7 +11,7 @@ use Rattle.ptu_slave_messages.specs.declared.heard.{Heard.{Heard}, Heard.TheVari
 use Rattle.ptu_slave_messages.specs.declared.reason.SlaveReason.{SlaveReason}
 use Rattle.ptu_profile.specs.Slave.{priorities, timeouts}
 use Rattle.ptu_slave_messages.specs.Heard.{event_of, heard_of, replies_to, reply_by}
-use Rattle.ptu_slave_messages.specs.{Reception.{reception}, Sending.{all_ones, departure_of}}
+use Rattle.ptu_slave_messages.specs.{Reception.{reception}, Sending.{all_ones, sending_departure}}
 
 -- what a slave is opened with: the rule of each master's first judge, where it has one
 pub record Node : Type 0 where
@@ -29,7 +29,7 @@ node_setup node = record { wants = node.config.wants; openings = node.openings }
 
 -- the datagrams of these sendings, to this target
 abbrev pub datagrams_of : Node → PortIdentity → SlaveEvent → Record → ℕ → List Departure
-datagrams_of node target e L t = map (departure_of node.config node.masters target) (slave_step (node_setup node) L t e).sendings
+datagrams_of node target e L t = map (sending_departure node.config node.masters target) (slave_step (node_setup node) L t e).sendings
 
 -- an event that is handed t, after this record: a tick, the stop, the operator's word or another judge
 abbrev pub deed : Node → Record → ℕ → SlaveEvent → Deed

@@ -16,7 +16,7 @@ use Rattle.ptu_record.specs.Wants.{wanted_log}
 use Rattle.ptu_profile.specs.declared.slave.{Master.{Master}, SlaveConfig.{SlaveConfig}}
 use Rattle.ptu_slave_messages.specs.declared.{kinds.Kinds.{Kinds}, plan.TickPlan.{TickPlan}}
 use Rattle.ptu_slave_messages.specs.declared.plan.StopPlan.{StopPlan}
-use Rattle.ptu_profile.specs.Slave.{address_of, header_of}
+use Rattle.ptu_profile.specs.Slave.{address_of, slave_header}
 
 -- ---- messages
 
@@ -35,11 +35,11 @@ cancel_of k = tlv.Cancel (code_of k)
 
 -- the message of a sending; a Signaling has this target, and a Delay_Req, with the timestamp 0, has none
 abbrev pub message_of : SlaveConfig → PortIdentity → Sending → Message
-message_of config target (Requests m number ks) = signaling (header_of config 12 number) target (map (request_of config.wants) ks)
-message_of config target (Cancels m number ks) = signaling (header_of config 12 number) target (map cancel_of ks)
-message_of config target (Acknowledgements m number codes) = signaling (header_of config 12 number) target (map tlv.Ack codes)
+message_of config target (Requests m number ks) = signaling (slave_header config 12 number) target (map (request_of config.wants) ks)
+message_of config target (Cancels m number ks) = signaling (slave_header config 12 number) target (map cancel_of ks)
+message_of config target (Acknowledgements m number codes) = signaling (slave_header config 12 number) target (map tlv.Ack codes)
 message_of config target (DelayReq m number) =
-    record { header = header_of config 1 number; body = body.DelayReq (record { seconds = 0; nanos = 0 }) }
+    record { header = slave_header config 1 number; body = body.DelayReq (record { seconds = 0; nanos = 0 }) }
 
 -- ---- datagrams
 
@@ -63,8 +63,8 @@ departure_to config ip target sending =
     record { ip = ip; channel = channel_of sending; bytes = octets_sent (message_of config target sending) }
 
 -- the datagram of a sending to one of these masters
-abbrev pub departure_of : SlaveConfig → List Master → PortIdentity → Sending → Departure
-departure_of config masters target sending = departure_to config (address_of masters (receiver sending)) target sending
+abbrev pub sending_departure : SlaveConfig → List Master → PortIdentity → Sending → Departure
+sending_departure config masters target sending = departure_to config (address_of masters (receiver sending)) target sending
 
 -- ---- what is made up for one master
 

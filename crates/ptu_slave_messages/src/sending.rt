@@ -8,7 +8,7 @@ ghost use Rattle.ptu_record.specs.Step.{one_reply};
 ghost use Rattle.ptu_record.specs.Tick.{Requests, Cancels, DelayReq, one_signaling};
 ghost use Rattle.ptu_tlvs.specs.{Sent.{IsSendable}, declared.tlv.Tlv.TheVariants.{Ack}};
 ghost use Rattle.ptu_slave_messages.specs.Sending.{all_ones, tick_plan, departure_to, stop_plan, kinds_in};
-ghost use Rattle.ptu_profile.specs.Slave.{header_of};
+ghost use Rattle.ptu_profile.specs.Slave.{slave_header};
 
 use crate::kinds::Kinds;
 use crate::plan::{StopPlan, TickPlan};
@@ -36,7 +36,7 @@ fn send_signaling<P: Port>(
         (record {
           ip = ip;
           channel = Channel.General;
-          bytes = octets_sent (signaling (header_of config.now 12 number) target.now tlvs.now);
+          bytes = octets_sent (signaling (slave_header config.now 12 number) target.now tlvs.now);
         } ∷ [])
         result.sent result.failed }
 {

@@ -38,8 +38,8 @@ TlvsAreSpelled =
     × BeginsWithTlv (announce_cancel ++ announce_request) (Cancel 11) 6
 
 -- each fault
-abbrev pub FaultsAreFound : Type 0
-FaultsAreFound =
+abbrev pub TlvFaultsAreFound : Type 0
+TlvFaultsAreFound =
     HasTlvFault [] (Short 0)
     × HasTlvFault (0x00 ∷ 0x04 ∷ 0x00 ∷ []) (Short 3)
     × HasTlvFault (0x00 ∷ 0x04 ∷ 0x00 ∷ 0x06 ∷ replicate 5 0) (Overrun 6 5)

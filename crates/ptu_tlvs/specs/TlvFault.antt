@@ -22,7 +22,7 @@ HasTlvFault octets (Length t said) =
     × (t ≡ number_at octets 0 2) × (said ≡ number_at octets 2 2) × HasOtherLength t said
 
 -- what a person is told of it
-abbrev pub text_of : TlvFault → List ℕ
-text_of (Short have) = decimal have ++ codes " octets are fewer than the 4 that begin a TLV"
-text_of (Overrun said have) = codes "lengthField is " ++ (decimal said ++ (codes " where " ++ (decimal have ++ codes " octets follow")))
-text_of (Length t said) = codes "lengthField is " ++ (decimal said ++ (codes ", which tlvType " ++ (decimal t ++ codes " never has")))
+abbrev pub tlv_fault_text : TlvFault → List ℕ
+tlv_fault_text (Short have) = decimal have ++ codes " octets are fewer than the 4 that begin a TLV"
+tlv_fault_text (Overrun said have) = codes "lengthField is " ++ (decimal said ++ (codes " where " ++ (decimal have ++ codes " octets follow")))
+tlv_fault_text (Length t said) = codes "lengthField is " ++ (decimal said ++ (codes ", which tlvType " ++ (decimal t ++ codes " never has")))

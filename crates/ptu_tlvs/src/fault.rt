@@ -1,7 +1,7 @@
 //! Why octets begin with no TLV.
 
 ghost use Rattle.std.specs.Prelude.{Some};
-ghost use Rattle.ptu_tlvs.specs.TlvFault.{text_of};
+ghost use Rattle.ptu_tlvs.specs.TlvFault.{tlv_fault_text};
 
 use std::error::Error;
 use std::fmt;
@@ -31,7 +31,7 @@ pub enum TlvFault {
 }
 
 impl fmt::Display for TlvFault {
-    ghost output = { λ f. Some (text_of f) };
+    ghost output = { λ f. Some (tlv_fault_text f) };
 
     fn fmt<W: fmt::Write>(&self, f: &mut fmt::Formatter<W>) -> fmt::Result {
         match *self {

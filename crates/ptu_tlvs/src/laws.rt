@@ -5,7 +5,7 @@ ghost use Rattle.std.specs.Prelude.{◌≡◌, ◌⊎◌, ◌↔◌, ◌<◌, �
 ghost use Rattle.ptu_tlvs.specs.Tlv.{HasWidths, SpellsTlv, BeginsWithTlv, AlwaysBeginsWithTlv};
 ghost use Rattle.ptu_tlvs.specs.{TlvFault.{HasTlvFault}, Reading.{tlv_in}};
 ghost use Rattle.ptu_tlvs.specs.Sent.{IsSendable, sent_tlv};
-ghost use Rattle.ptu_tlvs.specs.Samples.{TlvsAreSpelled, FaultsAreFound, TlvsAreSent};
+ghost use Rattle.ptu_tlvs.specs.Samples.{TlvsAreSpelled, TlvFaultsAreFound, TlvsAreSent};
 ghost use Rattle.ptu_tlvs.specs.{declared.tlv.Tlv.{Tlv}, declared.fault.TlvFault.{TlvFault}};
 
 /// Every list of octets begins with one TLV of one size, or has one fault, and never both.
@@ -41,6 +41,6 @@ pub fn reading_is_spelling()
 /// The definitions at TLVs that were made out by hand.
 pub fn sample_tlvs()
     ensures spelled { TlvsAreSpelled }
-    ensures faulty { FaultsAreFound }
+    ensures faulty { TlvFaultsAreFound }
     ensures sent { TlvsAreSent }
 {}

@@ -17,28 +17,28 @@ use Rattle.ptu_trail.specs.declared.cause.NoCause.TheVariants as causes
 use Rattle.ptu_trail.specs.declared.{cause.Shedding.{Shedding}, clients.Clients.{Clients}}
 use Rattle.ptu_trail.specs.declared.{live.End.{End}, trail.Trail.{Trail}}
 use Rattle.ptu_trail.specs.Clients.{AreKnown, IsPlaced}
-use Rattle.ptu_trail.specs.Faults.{decision_tests, fault_of, first_of, is_no_moment, last_sent_to, record_of}
+use Rattle.ptu_trail.specs.Faults.{decision_tests, fault_of, first_no_cause, is_no_moment, last_sent_to, record_of}
 use Rattle.ptu_trail.specs.declared.known.{Known.{Known}, Lease.{Lease}}
-use Rattle.ptu_trail.specs.{Known.{IsHeld, IsKnown, lease_at}, Live.{AreLive, AreOf, IsLeaseOf}}
+use Rattle.ptu_trail.specs.{Known.{IsHeld, IsKnown, lease_at}, Live.{AreLive, AreOf, IsLatestLeaseOf}}
 use Rattle.ptu_trail.specs.Trail.{StandsFor}
 use Rattle.ptu_trail.proofs.{Accounts.{change_account}, Living.{lease_held, live-undecided}}
 use Rattle.ptu_trail.proofs.Sound.{all_false}
 
 -- ---- tests in order
 
-pub first_more : (tests more : List (Bool × NoCause)) (cause : NoCause) → first_of tests ≡ Some cause → first_of (tests ++ more) ≡ Some cause
+pub first_more : (tests more : List (Bool × NoCause)) (cause : NoCause) → first_no_cause tests ≡ Some cause → first_no_cause (tests ++ more) ≡ Some cause
 first_more [] more cause e = absurd cc
 first_more (test ∷ tests) more cause e = at test.0 e (first_more tests more cause)
   where
-    at : (b : Bool) → cond b (Some test.1) (first_of tests) ≡ Some cause → (first_of tests ≡ Some cause → first_of (tests ++ more) ≡ Some cause) → cond b (Some test.1) (first_of (tests ++ more)) ≡ Some cause
+    at : (b : Bool) → cond b (Some test.1) (first_no_cause tests) ≡ Some cause → (first_no_cause tests ≡ Some cause → first_no_cause (tests ++ more) ≡ Some cause) → cond b (Some test.1) (first_no_cause (tests ++ more)) ≡ Some cause
     at true e ih = e
     at false e ih = ih e
 
 module _ (history : List Record) (n : ℕ) (c : Client) where
-  pub placed_more : IsPlaced history n c → (more : List (Bool × NoCause)) → first_of (decision_tests history n c ++ more) ≡ first_of more
+  pub placed_more : IsPlaced history n c → (more : List (Bool × NoCause)) → first_no_cause (decision_tests history n c ++ more) ≡ first_no_cause more
   placed_more s more = rw (s.not_shared, s.moment, s.not_back) refl
 
-  pub placed_from : first_of (decision_tests history n c) ≡ None → IsPlaced history n c
+  pub placed_from : first_no_cause (decision_tests history n c) ≡ None → IsPlaced history n c
   placed_from e = let f = all_false (decision_tests history n c) e in record { not_shared = f.0; moment = f.1.0; not_back = f.1.1.0 }
 
   pub placed_le : IsPlaced history n c → book_moment history ≤ n
@@ -48,7 +48,7 @@ module _ (history : List Record) (n : ℕ) (c : Client) where
 pub beside : (opening : ℕ) (history : List Record) (n : ℕ) (c : Client) (k : Kind) (old : Trail) (known : Known) (lease : Option Lease) (advanced left : List (End × ℕ))
     → StandsFor opening old history → IsPlaced history n c × IsKnown history c known → lease ≡ lease_at k known
     → ((history : List Record) (m : ℕ) → m ≤ n → AreLive history m old.live → AreLive history n advanced)
-    → ((grants : List Grant) → AreOf grants advanced → IsLeaseOf c k lease grants → AreOf (without c k grants) left)
+    → ((grants : List Grant) → AreOf grants advanced → IsLatestLeaseOf c k lease grants → AreOf (without c k grants) left)
     → AreOf (without c k (live_grants history n)) left
 beside opening history n c k old known lease advanced left s judged is advance remove =
     remove (live_grants history n) (advance history (book_moment history) (placed_le history n c judged.0) s.live)
@@ -72,7 +72,7 @@ grant_test opening history n c k l u capacity fits placed in_force is =
 pub fit_fault : (opening : ℕ) (history : List Record) (n : ℕ) (c : Client) (k : Kind) (l : ℤ) (u : ℕ) (old : Trail) (known : Known) (lease : Option Lease) (advanced left : List (End × ℕ)) (fits b : Bool)
     → fits ≡ b → IsPlaced history n c × IsKnown history c known → lease ≡ lease_at k known
     → ((history : List Record) (m : ℕ) → m ≤ n → AreLive history m old.live → AreLive history n advanced)
-    → ((grants : List Grant) → AreOf grants advanced → IsLeaseOf c k lease grants → AreOf (without c k grants) left)
+    → ((grants : List Grant) → AreOf grants advanced → IsLatestLeaseOf c k lease grants → AreOf (without c k grants) left)
     → ((grants : List Grant) → AreOf grants left → fits ≡ not (ltb old.capacity (rate_sum grants + rate_of l)))
     → StandsFor opening old history → cond b None (Some causes.Fit) ≡ fault_of opening history (Granted n c k l u) []
 fit_fault opening history n c k l u old known lease advanced left fits b by judged is advance remove sum s =

@@ -17,19 +17,19 @@ use Rattle.ptu_laws.proofs.Sums.{sum-filter}
 use Rattle.ptu_trail.specs.declared.{cause.Shedding.{Shedding}, known.Lease.{Lease}, live.End.{End}}
 use Rattle.ptu_trail.specs.{Faults.{record_of}, Known.{IsHeld}}
 use Rattle.ptu_trail.proofs.Sheds.{records_more}
-use Rattle.ptu_trail.specs.Live.{AreLive, AreOf, EndsAt, IsLeaseOf, entry_of, is_live_entry, is_other_entry, total_of}
+use Rattle.ptu_trail.specs.Live.{AreLive, AreOf, EndsAt, IsLatestLeaseOf, end_entry_of, is_live_entry, is_other_entry, total_of}
 
 -- ---- what is summed
 
 -- what passes a test of the entries
-pub of-filter : (p : End × ℕ → Bool) (gs : List Grant) (es : List (End × ℕ)) → AreOf gs es → AreOf (filter (λ g. p (entry_of g)) gs) (filter p es)
+pub of-filter : (p : End × ℕ → Bool) (gs : List Grant) (es : List (End × ℕ)) → AreOf gs es → AreOf (filter (λ g. p (end_entry_of g)) gs) (filter p es)
 of-filter p gs es same = λ weight.
-    sum-filter p weight es ∙ same (λ e. cond (p e) (weight e) 0) ∙ sym (sum-filter (λ g. p (entry_of g)) (λ g. weight (entry_of g)) gs)
+    sum-filter p weight es ∙ same (λ e. cond (p e) (weight e) 0) ∙ sym (sum-filter (λ g. p (end_entry_of g)) (λ g. weight (end_entry_of g)) gs)
 
 -- one grant more
-pub of-push : (gs : List Grant) (g : Grant) (es fs : List (End × ℕ)) → AreOf gs es → ((weight : End × ℕ → ℕ) → sum_by weight fs ≡ weight (entry_of g) + sum_by weight es) → AreOf (gs ++ g ∷ []) fs
+pub of-push : (gs : List Grant) (g : Grant) (es fs : List (End × ℕ)) → AreOf gs es → ((weight : End × ℕ → ℕ) → sum_by weight fs ≡ weight (end_entry_of g) + sum_by weight es) → AreOf (gs ++ g ∷ []) fs
 of-push gs g es fs same more = λ weight.
-    let f : Grant → ℕ = λ g. weight (entry_of g) in
+    let f : Grant → ℕ = λ g. weight (end_entry_of g) in
     omega (arith, more weight, same weight, sum_by-append f gs (g ∷ []), sum_by-cons f g [])
 
 total-sum : (es : List (End × ℕ)) → total_of es ≡ sum_by (λ e. e.1) es
@@ -45,10 +45,10 @@ abbrev end_of : Client → Kind → Lease → End
 end_of c k lease = record { until = lease.until; client = c; kind = k }
 
 -- without the grant whose lease this is
-left_is : (c : Client) (k : Kind) (lease : Lease) (gs : List Grant) → IsLeaseOf c k (Some lease) gs → filter (λ g. is_other_entry (end_of c k lease) (entry_of g)) gs ≡ without c k gs
+left_is : (c : Client) (k : Kind) (lease : Lease) (gs : List Grant) → IsLatestLeaseOf c k (Some lease) gs → filter (λ g. is_other_entry (end_of c k lease) (end_entry_of g)) gs ≡ without c k gs
 left_is c k lease [] own = refl
 left_is c k lease (g ∷ gs) own =
-    ap (λ b. cond b (g ∷ filter (λ g. is_other_entry (end_of c k lease) (entry_of g)) gs) (filter (λ g. is_other_entry (end_of c k lease) (entry_of g)) gs)) (one (is_of c k g) refl (All-head (λ (x : Grant). is_of c k x ≡ true → EndsAt (Some lease) x.until) g gs own))
+    ap (λ b. cond b (g ∷ filter (λ g. is_other_entry (end_of c k lease) (end_entry_of g)) gs) (filter (λ g. is_other_entry (end_of c k lease) (end_entry_of g)) gs)) (one (is_of c k g) refl (All-head (λ (x : Grant). is_of c k x ≡ true → EndsAt (Some lease) x.until) g gs own))
     ∙ ap (λ rest. cond (not (is_of c k g)) (g ∷ rest) rest) (left_is c k lease gs (All-tail (λ (x : Grant). is_of c k x ≡ true → EndsAt (Some lease) x.until) g gs own))
   where
     one : (b : Bool) → is_of c k g ≡ b → (is_of c k g ≡ true → lease.until ≡ g.until) → not (eqb lease.until g.until && same_lease c k g.client g.kind) ≡ not (is_of c k g)
@@ -59,12 +59,12 @@ left_is c k lease (g ∷ gs) own =
         and-false true = refl
         and-false false = refl
 
-pub of-without : (c : Client) (k : Kind) (lease : Lease) (gs : List Grant) (es : List (End × ℕ)) → AreOf gs es → IsLeaseOf c k (Some lease) gs → AreOf (without c k gs) (filter (is_other_entry (end_of c k lease)) es)
+pub of-without : (c : Client) (k : Kind) (lease : Lease) (gs : List Grant) (es : List (End × ℕ)) → AreOf gs es → IsLatestLeaseOf c k (Some lease) gs → AreOf (without c k gs) (filter (is_other_entry (end_of c k lease)) es)
 of-without c k lease gs es same own =
     subst (λ l. AreOf l (filter (is_other_entry (end_of c k lease)) es)) (left_is c k lease gs own) (of-filter (is_other_entry (end_of c k lease)) gs es same)
 
 -- without a lease there is no grant
-none_left : (c : Client) (k : Kind) (gs : List Grant) → IsLeaseOf c k None gs → gs ≡ without c k gs
+none_left : (c : Client) (k : Kind) (gs : List Grant) → IsLatestLeaseOf c k None gs → gs ≡ without c k gs
 none_left c k [] own = refl
 none_left c k (g ∷ gs) own =
     ap (λ rest. g ∷ rest) (none_left c k gs (All-tail (λ (x : Grant). is_of c k x ≡ true → EndsAt None x.until) g gs own))
@@ -74,7 +74,7 @@ none_left c k (g ∷ gs) own =
     one true is none = absurd (none is)
     one false is none = is
 
-pub of-none : (c : Client) (k : Kind) (gs : List Grant) (es : List (End × ℕ)) → AreOf gs es → IsLeaseOf c k None gs → AreOf (without c k gs) es
+pub of-none : (c : Client) (k : Kind) (gs : List Grant) (es : List (End × ℕ)) → AreOf gs es → IsLatestLeaseOf c k None gs → AreOf (without c k gs) es
 of-none c k gs es same own = subst (λ l. AreOf l es) (none_left c k gs own) same
 
 -- of a client and kind that has no grant there is no entry
@@ -91,16 +91,16 @@ none_at gs es end same = all es (same weight ∙ none gs)
     apart true = refl
     apart false = refl
 
-    none : (gs : List Grant) → sum_by (λ g. weight (entry_of g)) (without end.client end.kind gs) ≡ 0
+    none : (gs : List Grant) → sum_by (λ g. weight (end_entry_of g)) (without end.client end.kind gs) ≡ 0
     none [] = refl
     none (g ∷ gs) = at (is_of end.client end.kind g) refl (none gs)
       where
-        at : (b : Bool) → is_of end.client end.kind g ≡ b → sum_by (λ g. weight (entry_of g)) (without end.client end.kind gs) ≡ 0
-            → sum_by (λ g. weight (entry_of g)) (cond (not b) (g ∷ without end.client end.kind gs) (without end.client end.kind gs)) ≡ 0
+        at : (b : Bool) → is_of end.client end.kind g ≡ b → sum_by (λ g. weight (end_entry_of g)) (without end.client end.kind gs) ≡ 0
+            → sum_by (λ g. weight (end_entry_of g)) (cond (not b) (g ∷ without end.client end.kind gs) (without end.client end.kind gs)) ≡ 0
         at true is ih = ih
         at false is ih =
-            let free : weight (entry_of g) ≡ 0 = ap (one_if (eqb end.until g.until)) is ∙ apart (eqb end.until g.until) in
-            omega (arith, sum_by-cons (λ (g : Grant). weight (entry_of g)) g (without end.client end.kind gs), free, ih)
+            let free : weight (end_entry_of g) ≡ 0 = ap (one_if (eqb end.until g.until)) is ∙ apart (eqb end.until g.until) in
+            omega (arith, sum_by-cons (λ (g : Grant). weight (end_entry_of g)) g (without end.client end.kind gs), free, ih)
 
     all : (es : List (End × ℕ)) → sum_by weight es ≡ 0 → list_all (is_other_entry end) es ≡ true
     all [] e = refl
@@ -179,7 +179,7 @@ module _ (history : List Record) (n : ℕ) (end : End) (log : ℤ) where
 -- ---- leases
 
 -- of the grants that are live, that of the client and kind ends as the lease does that it has
-pub lease_held : (history : List Record) (n : ℕ) (c : Client) (k : Kind) (lease : Option Lease) → IsHeld history c k lease → IsLeaseOf c k lease (live_grants history n)
+pub lease_held : (history : List Record) (n : ℕ) (c : Client) (k : Kind) (lease : Option Lease) → IsHeld history c k lease → IsLatestLeaseOf c k lease (live_grants history n)
 lease_held history n c k lease held =
     All-weaker (Contains (live_grants history n)) (λ g. is_of c k g ≡ true → EndsAt lease g.until) (λ g inside is. one g inside is lease held) (live_grants history n) (All-contains_itself (live_grants history n))
   where
@@ -205,8 +205,8 @@ all_shed_left P at n (one ∷ shed) history all =
 
 -- one shedding more
 pub shed_one : (history : List Record) (n at : ℕ) (shed : List Shedding) (i : ℕ) (d : Shedding) → i < length shed → (lease : Option Lease) (old new : List (End × ℕ))
-    → IsLeaseOf (get_or shed i d).client (get_or shed i d).kind lease (live_grants history n) → AreLive (history ++ map (record_of at) (take i shed)) n old
-    → ((grants : List Grant) → AreOf grants old → IsLeaseOf (get_or shed i d).client (get_or shed i d).kind lease grants → AreOf (without (get_or shed i d).client (get_or shed i d).kind grants) new)
+    → IsLatestLeaseOf (get_or shed i d).client (get_or shed i d).kind lease (live_grants history n) → AreLive (history ++ map (record_of at) (take i shed)) n old
+    → ((grants : List Grant) → AreOf grants old → IsLatestLeaseOf (get_or shed i d).client (get_or shed i d).kind lease grants → AreOf (without (get_or shed i d).client (get_or shed i d).kind grants) new)
     → AreLive (history ++ map (record_of at) (take (i + 1) shed)) n new
 shed_one history n at shed i d lt lease old new own live remove =
     let one = get_or shed i d in

@@ -5,7 +5,7 @@ use Rattle.ptu_history.specs.{History.{Record, Shed}, Moments.{book_moment}}
 use Rattle.ptu_history.proofs.Moments.{book_moment-push}
 use Rattle.ptu_trail.specs.declared.cause.{Fault.{Fault}, NoCause.{NoCause}, Shedding.{Shedding}}
 use Rattle.ptu_trail.specs.{declared.clients.Clients.{Clients}, Clients.{AreKnown}}
-use Rattle.ptu_trail.specs.Faults.{behind, decision_tests, first_fault, first_of, or_behind, record_of}
+use Rattle.ptu_trail.specs.Faults.{behind, decision_tests, first_fault, first_no_cause, or_behind, record_of}
 
 -- a fault so many places further back
 abbrev pub shift : ℕ → Option Fault → Option Fault
@@ -44,10 +44,10 @@ module _ (opening : ℕ) (history : List Record) (at : ℕ) (shed : List Sheddin
   }
 
   next : (place : ℕ) (d : Shedding) → place < length shed → first_fault opening (so_far place) (map (record_of at) (drop place shed))
-      ≡ or_behind (first_of (decision_tests (so_far place) at (get_or shed place d).client)) (first_fault opening (so_far place ++ record_of at (get_or shed place d) ∷ []) (map (record_of at) (drop (place + 1) shed)))
+      ≡ or_behind (first_no_cause (decision_tests (so_far place) at (get_or shed place d).client)) (first_fault opening (so_far place ++ record_of at (get_or shed place d) ∷ []) (map (record_of at) (drop (place + 1) shed)))
   next place d lt = ap (λ l. first_fault opening (so_far place) (map (record_of at) l)) (drop_more shed place d lt)
 
-  pub one_shed : (place : ℕ) (d : Shedding) (old new : Clients) → place < length shed → AreShed place old → first_of (decision_tests (so_far place) at (get_or shed place d).client) ≡ None
+  pub one_shed : (place : ℕ) (d : Shedding) (old new : Clients) → place < length shed → AreShed place old → first_no_cause (decision_tests (so_far place) at (get_or shed place d).client) ≡ None
       → AreKnown (so_far place ++ Shed at (get_or shed place d).client (get_or shed place d).kind ∷ []) new → AreShed (place + 1) new
   one_shed place d old new lt s none known =
       let more = records_more history at place shed d lt in
@@ -59,7 +59,7 @@ module _ (opening : ℕ) (history : List Record) (at : ℕ) (shed : List Sheddin
             ∙ ap (λ h. shift ((place + 1) + 1) (first_fault opening h (map (record_of at) (drop (place + 1) shed)))) (sym more);
       }
 
-  pub fault_shed : (place : ℕ) (d : Shedding) (clients : Clients) (cause : NoCause) → place < length shed → AreShed place clients → Some cause ≡ first_of (decision_tests (so_far place) at (get_or shed place d).client)
+  pub fault_shed : (place : ℕ) (d : Shedding) (clients : Clients) (cause : NoCause) → place < length shed → AreShed place clients → Some cause ≡ first_no_cause (decision_tests (so_far place) at (get_or shed place d).client)
       → Some (record { place = place + 1; cause = cause }) ≡ behind (first_fault opening history (map (record_of at) shed))
   fault_shed place d clients cause lt s is =
       sym (s.rest ∙ ap (shift (place + 1)) (next place d lt ∙ ap (λ o. or_behind o (first_fault opening (so_far place ++ record_of at (get_or shed place d) ∷ []) (map (record_of at) (drop (place + 1) shed)))) (sym is))

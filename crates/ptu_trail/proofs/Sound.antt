@@ -7,7 +7,7 @@ use Rattle.ptu_history.specs.History.{Record, Granted, Short, Ended, Capacity, S
 use Rattle.ptu_history.specs.{Moments.{book_moment}, Live.{live}, Lawful.{earliest, lawful}}
 use Rattle.ptu_laws.specs.Sound.{IsInOrder, IsSound, MayStand, last_sent, sent_part}
 use Rattle.ptu_trail.specs.declared.cause.NoCause.{NoCause}
-use Rattle.ptu_trail.specs.Faults.{AreInRange, IsFaultless, IsInRange, first_of, tests_of, is_back, last_sent_to, sent_to_part}
+use Rattle.ptu_trail.specs.Faults.{AreInRange, IsFaultless, IsInRange, first_no_cause, tests_of, is_back, last_sent_to, sent_to_part}
 use Rattle.ptu_laws.proofs.Stands.{greatest-le}
 
 abbrev pub AreFalse : List (Bool × NoCause) → Type 0
@@ -19,9 +19,9 @@ first_false true cause rest e = absurd cc
 first_false false cause rest e = (refl, e)
 
 -- where there is no fault, no test is true
-pub all_false : (tests : List (Bool × NoCause)) → first_of tests ≡ None → AreFalse tests
+pub all_false : (tests : List (Bool × NoCause)) → first_no_cause tests ≡ None → AreFalse tests
 all_false [] e = tt
-all_false (test ∷ tests) e = let both = first_false test.0 test.1 (first_of tests) e in (both.0, all_false tests both.1)
+all_false (test ∷ tests) e = let both = first_false test.0 test.1 (first_no_cause tests) e in (both.0, all_false tests both.1)
 
 -- ---- messages to a client, and of one kind to it
 

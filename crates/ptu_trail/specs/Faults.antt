@@ -87,13 +87,13 @@ tests_of opening before (Short n c) after = []
 tests_of opening before (Looked x j) after = []
 
 -- the first of these that is true
-abbrev pub first_of : List (Bool × NoCause) → Option NoCause
-first_of [] = None
-first_of (test ∷ tests) = if test.0 then Some test.1 else first_of tests
+abbrev pub first_no_cause : List (Bool × NoCause) → Option NoCause
+first_no_cause [] = None
+first_no_cause (test ∷ tests) = if test.0 then Some test.1 else first_no_cause tests
 
 -- the first fault of a record between those before it and those after it, or none
 abbrev pub fault_of : ℕ → List Record → Record → List Record → Option NoCause
-fault_of opening before r after = first_of (tests_of opening before r after)
+fault_of opening before r after = first_no_cause (tests_of opening before r after)
 
 -- no record of the trail has a fault
 pub record IsFaultless (opening : ℕ) (trail : List Record) : Type 0 where
@@ -121,9 +121,9 @@ abbrev pub record_of : ℕ → Shedding → Record
 record_of x s = Shed x s.client s.kind
 
 -- the record is a shedding
-abbrev pub is_shedding : Record → Bool
-is_shedding (Shed x c k) = true
-is_shedding _ = false
+abbrev pub is_shed_record : Record → Bool
+is_shed_record (Shed x c k) = true
+is_shed_record _ = false
 
 -- the moment of a timestamp; one whose nanoseconds are not below 10^9 stands for no moment
 abbrev pub moment_of_stamp : Stamp → ℕ

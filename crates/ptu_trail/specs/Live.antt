@@ -7,8 +7,8 @@ use Rattle.ptu_history.specs.{History.{Record}, Live.{Grant, is_of, live_grants}
 use Rattle.ptu_trail.specs.declared.{known.Lease.{Lease}, live.End.{End}}
 
 -- the end of a grant, and its rate
-abbrev pub entry_of : Grant → End × ℕ
-entry_of g = (record { until = g.until; client = g.client; kind = g.kind }, rate_of g.log)
+abbrev pub end_entry_of : Grant → End × ℕ
+end_entry_of g = (record { until = g.until; client = g.client; kind = g.kind }, rate_of g.log)
 
 -- the sum of the rates, in sixteenths of a message per second
 abbrev pub total_of : List (End × ℕ) → ℕ
@@ -27,7 +27,7 @@ is_other_entry end e =
 -- comes to the same
 abbrev pub AreOf : List Grant → List (End × ℕ) → Type 0
 AreOf grants entries =
-    (weight : End × ℕ → ℕ) → sum_by weight entries ≡ sum_by (λ g. weight (entry_of g)) grants
+    (weight : End × ℕ → ℕ) → sum_by weight entries ≡ sum_by (λ g. weight (end_entry_of g)) grants
 
 -- the entries are those of the grants that are live at the moment after the history
 abbrev pub AreLive : List Record → ℕ → List (End × ℕ) → Type 0
@@ -39,5 +39,5 @@ EndsAt None u = ⊥
 EndsAt (Some lease) u = lease.until ≡ u
 
 -- the lease is that of the grants of the client and kind among these, as far as one is
-abbrev pub IsLeaseOf : Client → Kind → Option Lease → List Grant → Type 0
-IsLeaseOf c k lease grants = All (λ g. is_of c k g ≡ true → EndsAt lease g.until) grants
+abbrev pub IsLatestLeaseOf : Client → Kind → Option Lease → List Grant → Type 0
+IsLatestLeaseOf c k lease grants = All (λ g. is_of c k g ≡ true → EndsAt lease g.until) grants

@@ -5,8 +5,8 @@ ghost use Rattle.std.specs.{BTreeMap.{get}, Ordering.{nat_cmp}};
 ghost use Rattle.ptu_history.specs.{History.{Record, Ended, Sent, Shed}, Live.{live_grants}};
 ghost use Rattle.ptu_history.specs.Moments.{book_moment};
 ghost use Rattle.ptu_trail.specs.Clients.{AreKnown, IsPlaced};
-ghost use Rattle.ptu_trail.specs.Faults.{behind, client_at, decided_clients, decision_tests, fault_of, first_fault, first_of, is_shared, record_of};
-ghost use Rattle.ptu_trail.specs.{Known.{IsKnown}, Live.{IsLeaseOf}};
+ghost use Rattle.ptu_trail.specs.Faults.{behind, client_at, decided_clients, decision_tests, fault_of, first_fault, first_no_cause, is_shared, record_of};
+ghost use Rattle.ptu_trail.specs.{Known.{IsKnown}, Live.{IsLatestLeaseOf}};
 
 use crate::cause::{Fault, NoCause, Shedding};
 use crate::known::{Known, Lease};
@@ -56,7 +56,7 @@ impl Clients {
     /// The last grant of the kind to the client, where no other decision came after it.
     pub(crate) fn lease(&self, client: &Client, kind: Kind) -> Option<Lease>
         ensures { (history : List Record) (n : ℕ) → AreKnown history self.now →
-            IsLeaseOf client.now kind result (live_grants history n) }
+            IsLatestLeaseOf client.now kind result (live_grants history n) }
     {
         match self.look(client) {
             Some(known) => known.lease(kind),
@@ -71,7 +71,7 @@ impl Clients {
         ensures judged { (history : List Record) →
             AreKnown history self.now → last ≡ book_moment history → MatchResult result
             (λ known. IsPlaced history at client.now × IsKnown history client.now known)
-            (λ cause. first_of (decision_tests history at client.now) ≡ Some cause) }
+            (λ cause. first_no_cause (decision_tests history at client.now) ≡ Some cause) }
     {
         let Some(known) = self.look(client) else {
             return Err(NoCause::Shared);
@@ -113,7 +113,7 @@ impl Clients {
     ) -> Result<Option<NoCause>, OutOfMemory>
         ensures fault { IfOk result (λ fault. (history : List Record) →
             AreKnown history self.old → last ≡ book_moment history →
-            fault ≡ first_of (decision_tests history at client)) }
+            fault ≡ first_no_cause (decision_tests history at client)) }
         ensures ended { IfOk result (λ fault. IfNone fault ((history : List Record) →
             AreKnown history self.old → last ≡ book_moment history →
             AreKnown (history ++ Ended at client kind ∷ []) self.new)) }

@@ -5,7 +5,7 @@ ghost use Rattle.std.specs.List.{filter, list_all, sum_by};
 ghost use Rattle.ptu_units.specs.Log.{rate_of};
 ghost use Rattle.ptu_history.specs.{History.{Record, Granted}, Live.{Grant, live_grants, without}};
 ghost use Rattle.ptu_history.specs.Verdict.{rate_sum};
-ghost use Rattle.ptu_trail.specs.Live.{AreLive, AreOf, IsLeaseOf, is_live_entry, is_other_entry, total_of};
+ghost use Rattle.ptu_trail.specs.Live.{AreLive, AreOf, IsLatestLeaseOf, is_live_entry, is_other_entry, total_of};
 
 use crate::known::Lease;
 use ptu_history::Client;
@@ -123,7 +123,7 @@ impl LiveGrants {
     /// Lets go of the grant of the client and kind, whose lease this is.
     pub(crate) fn remove(&mut self, client: &Client, kind: Kind, lease: Option<Lease>)
         ensures { (grants : List Grant) → AreOf grants self.old →
-            IsLeaseOf client.now kind lease grants →
+            IsLatestLeaseOf client.now kind lease grants →
             AreOf (without client.now kind grants) self.new }
     {
         if let Some(lease) = lease {

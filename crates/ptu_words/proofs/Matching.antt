@@ -12,7 +12,7 @@ use Rattle.clap.specs.Words.{App, Kinds, Row, Shape, Text, fault_of, first_of, i
 use Rattle.clap.proofs.OnLiterals.{clap_on_literals}
 use Rattle.ptu_words.specs.declared.command.Command.{Command}
 use Rattle.ptu_words.specs.declared.command.Command.TheVariants.{Replay, Show, Serve, Slave, Join, Pools}
-use Rattle.ptu_words.specs.CommandLine.{IsRefused, command_after, command_by, command_line, command_named, command_of, is_out_of_range, audit_of, load_of}
+use Rattle.ptu_words.specs.CommandLine.{AreWordsRefused, command_after, words_command_by, command_line, command_named, words_command_of, is_out_of_range, audit_of, load_of}
 
 pub simple : is_simple command_line ≡ true
 unfolding clap_on_literals
@@ -36,14 +36,14 @@ pair_is a b (Some p) e h =
     ap (λ x. Some (x, p.1)) first ∙ ap (λ y. Some (a, y)) second
 
 after_none : (faults : Kinds) (subcommand : Option (Text × List Row)) → faults ≡ []
-    → option_and_then command_by subcommand ≡ command_after faults subcommand
+    → option_and_then words_command_by subcommand ≡ command_after faults subcommand
 after_none [] subcommand e = refl
 after_none (fault ∷ faults) subcommand e = cc
 
 -- matched words ask for the command of that subcommand
 pub asked : (words : List Text) → fault_of command_line words ≡ []
-    → option_and_then command_by (subcommand_of command_line words) ≡ command_of words
-unfolding command_of
+    → option_and_then words_command_by (subcommand_of command_line words) ≡ words_command_of words
+unfolding words_command_of
 asked words e = after_none (fault_of command_line words) (subcommand_of command_line words) e
 
 after_some : (faults : Kinds) (subcommand : Option (Text × List Row)) → faults ≢ [] → command_after faults subcommand ≡ None
@@ -51,8 +51,8 @@ after_some [] subcommand e = absurd (e refl)
 after_some (fault ∷ faults) subcommand e = refl
 
 -- words that are not matched ask for none
-pub unmatched : (words : List Text) → fault_of command_line words ≢ [] → command_of words ≡ None
-unfolding command_of
+pub unmatched : (words : List Text) → fault_of command_line words ≢ [] → words_command_of words ≡ None
+unfolding words_command_of
 unmatched words e = after_some (fault_of command_line words) (subcommand_of command_line words) e
 
 -- of several lists of faults the last is empty where all are
@@ -115,7 +115,7 @@ named_where_matched words e =
     entered_is_named walked.stopped within
 
 -- a command that is named is asked for, but for a load or an audit of no number in the range
-only_out_of_range : (o : Option (Text × List Row)) → is_command o ≡ true → option_and_then command_by o ≡ None → IsTrue (is_out_of_range o)
+only_out_of_range : (o : Option (Text × List Row)) → is_command o ≡ true → option_and_then words_command_by o ≡ None → IsTrue (is_out_of_range o)
 only_out_of_range None known none = absurd (let never : false ≡ true = known in cc)
 only_out_of_range (Some p) known none =
     by (bytes_eq p.0 (codes "replay")) (bytes_eq p.0 (codes "show")) (bytes_eq p.0 (codes "load")) (bytes_eq p.0 (codes "serve")) (bytes_eq p.0 (codes "slave")) (bytes_eq p.0 (codes "join"))
@@ -147,7 +147,7 @@ either_holds true b e = inl refl
 either_holds false b e = inr e
 
 -- and such a load or audit is none
-out_of_range : (o : Option (Text × List Row)) → IsTrue (is_out_of_range o) → option_and_then command_by o ≡ None
+out_of_range : (o : Option (Text × List Row)) → IsTrue (is_out_of_range o) → option_and_then words_command_by o ≡ None
 out_of_range None out = absurd (let never : false ≡ true = out in cc)
 out_of_range (Some p) out =
     let value = first_of (codes "N") p.1 in
@@ -163,18 +163,18 @@ out_of_range (Some p) out =
     ]
 
 -- refused words ask for none
-pub refused : (words : List Text) → IsRefused words → command_of words ≡ None
+pub refused : (words : List Text) → AreWordsRefused words → words_command_of words ≡ None
 refused words (inl unlike) = unmatched words unlike
 refused words (inr out) = by (fault_of command_line words) refl
   where
-    by : (faults : Kinds) → fault_of command_line words ≡ faults → command_of words ≡ None
+    by : (faults : Kinds) → fault_of command_line words ≡ faults → words_command_of words ≡ None
     by [] e = sym (asked words e) ∙ out_of_range (subcommand_of command_line words) out
     by (fault ∷ faults) e = unmatched words (λ none. let never : fault ∷ faults ≡ [] = sym e ∙ none in cc)
 
 -- and words that ask for none are refused
-pub unnamed : (words : List Text) → command_of words ≡ None → IsRefused words
+pub unnamed : (words : List Text) → words_command_of words ≡ None → AreWordsRefused words
 unnamed words none = by (fault_of command_line words) refl
   where
-    by : (faults : Kinds) → fault_of command_line words ≡ faults → IsRefused words
+    by : (faults : Kinds) → fault_of command_line words ≡ faults → AreWordsRefused words
     by [] e = inr (only_out_of_range (subcommand_of command_line words) (named_where_matched words e) (asked words e ∙ none))
     by (fault ∷ faults) e = inl (λ matched. let never : fault ∷ faults ≡ [] = sym e ∙ matched in cc)

@@ -47,15 +47,15 @@ audit_of None = None
 audit_of (Some value) = option_map Audit (number_within value least_capacity greatest_capacity)
 
 -- where it has a number, that is in its range
-abbrev pub IsInRange : Command → Type 0
-IsInRange Replay = Unit {0}
-IsInRange Show = Unit {0}
-IsInRange (Load number) = (1 ≤ number) × (number ≤ 2000)
-IsInRange Serve = Unit {0}
-IsInRange Slave = Unit {0}
-IsInRange Join = Unit {0}
-IsInRange (Audit capacity) = IsCapacity capacity
-IsInRange Pools = Unit {0}
+abbrev pub IsCommandLineInRange : Command → Type 0
+IsCommandLineInRange Replay = Unit {0}
+IsCommandLineInRange Show = Unit {0}
+IsCommandLineInRange (Load number) = (1 ≤ number) × (number ≤ 2000)
+IsCommandLineInRange Serve = Unit {0}
+IsCommandLineInRange Slave = Unit {0}
+IsCommandLineInRange Join = Unit {0}
+IsCommandLineInRange (Audit capacity) = IsCapacity capacity
+IsCommandLineInRange Pools = Unit {0}
 
 -- the command of a name, with this value
 abbrev pub command_named : Text → Option Text → Option Command
@@ -71,16 +71,16 @@ command_named name value =
     else None
 
 -- that of a subcommand with these arguments
-abbrev pub command_by : Text × List Row → Option Command
-command_by (name, rows) = command_named name (first_of (codes "N") rows)
+abbrev pub words_command_by : Text × List Row → Option Command
+words_command_by (name, rows) = command_named name (first_of (codes "N") rows)
 
 abbrev pub command_after : Kinds → Option (Text × List Row) → Option Command
-command_after [] subcommand = option_and_then command_by subcommand
+command_after [] subcommand = option_and_then words_command_by subcommand
 command_after (fault ∷ faults) subcommand = None
 
 -- the command that the words ask for, where the command line matches them
-unfoldable pub command_of : List Text → Option Command
-command_of words = command_after (fault_of command_line words) (subcommand_of command_line words)
+unfoldable pub words_command_of : List Text → Option Command
+words_command_of words = command_after (fault_of command_line words) (subcommand_of command_line words)
 
 -- a load of no number in the range, or an audit of none
 abbrev pub is_out_of_range : Option (Text × List Row) → Bool
@@ -90,5 +90,5 @@ is_out_of_range (Some (name, rows)) =
     || (bytes_eq name (codes "audit") && not (is_some (audit_of (first_of (codes "N") rows))))
 
 -- the command line does not match the words, or it does, and they ask for a load or an audit of no number in the range
-abbrev pub IsRefused : List Text → Type 0
-IsRefused words = (fault_of command_line words ≢ []) ⊎ IsTrue (is_out_of_range (subcommand_of command_line words))
+abbrev pub AreWordsRefused : List Text → Type 0
+AreWordsRefused words = (fault_of command_line words ≢ []) ⊎ IsTrue (is_out_of_range (subcommand_of command_line words))

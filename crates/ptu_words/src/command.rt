@@ -1,7 +1,7 @@
 //! The commands of the program, and the name of each.
 
 ghost use Rattle.std.specs.Prelude.{◌≡◌, ◌≤◌, IfSome, option_map};
-ghost use Rattle.ptu_words.specs.CommandLine.{IsInRange, audit_of, command_named, load_of};
+ghost use Rattle.ptu_words.specs.CommandLine.{IsCommandLineInRange, audit_of, command_named, load_of};
 
 use ptu_lines::number;
 use ptu_units::Capacity;
@@ -30,7 +30,7 @@ pub enum Command {
 // A load of the number that the value writes.
 fn load(value: Option<&str>) -> Option<Command>
     ensures load { result ≡ load_of (option_map (λ v. v.now) value.entry) }
-    ensures range { IfSome result IsInRange }
+    ensures range { IfSome result IsCommandLineInRange }
 {
     let number = number(value?.as_bytes(), 1, 2000)?;
     Some(Command::Load(number))
@@ -39,7 +39,7 @@ fn load(value: Option<&str>) -> Option<Command>
 // An audit with the capacity that the value writes.
 fn audit(value: Option<&str>) -> Option<Command>
     ensures audit { result ≡ audit_of (option_map (λ v. v.now) value.entry) }
-    ensures range { IfSome result IsInRange }
+    ensures range { IfSome result IsCommandLineInRange }
 {
     let capacity = number(value?.as_bytes(), Capacity::LEAST, Capacity::GREATEST)?;
     Some(Command::Audit(Capacity::of(capacity)?))
@@ -49,7 +49,7 @@ impl Command {
     /// The command of this name, with this value where it has one.
     pub fn named(name: &str, value: Option<&str>) -> Option<Command>
         ensures command { result ≡ command_named name.now (option_map (λ v. v.now) value.entry) }
-        ensures range { IfSome result IsInRange }
+        ensures range { IfSome result IsCommandLineInRange }
     {
         if name == "replay" {
             Some(Command::Replay)

@@ -3,11 +3,11 @@
 
 ghost use Rattle.std.specs.Prelude.{◌≡◌, ◌↔◌, List};
 ghost use Rattle.clap.specs.Words.{Text};
-ghost use Rattle.ptu_words.specs.{CommandLine.{command_of, IsRefused}, Samples.{WordsAreRead}};
+ghost use Rattle.ptu_words.specs.{CommandLine.{words_command_of, AreWordsRefused}, Samples.{WordsAreRead}};
 
 /// Words have a command exactly where the command line matches them.
 pub fn matched_words()
-    ensures { (words : List Text) → (command_of words ≡ None) ↔ IsRefused words }
+    ensures { (words : List Text) → (words_command_of words ≡ None) ↔ AreWordsRefused words }
 {}
 
 /// What words that were made out by hand ask for.

@@ -2,7 +2,7 @@
 
 ghost use Rattle.std.specs.Prelude.{◌≡◌, ◌≢◌, IfOk, IfSome, map, option_and_then};
 ghost use Rattle.clap.specs.Words.{app_of, subcommand_rows_of, with_subcommand};
-ghost use Rattle.ptu_words.specs.CommandLine.{IsInRange, command_by, command_line, command_of, numbered_line};
+ghost use Rattle.ptu_words.specs.CommandLine.{IsCommandLineInRange, words_command_by, command_line, words_command_of, numbered_line};
 
 use crate::command::Command;
 use clap::Arg;
@@ -51,8 +51,8 @@ fn whole_line<'a>(alloc: Global) -> Result<clap::Command<'a>, AllocError>
 
 // What matches ask for.
 fn command_in(matches: &clap::ArgMatches) -> Option<Command>
-    ensures command { result ≡ option_and_then command_by (subcommand_rows_of matches.now) }
-    ensures range { IfSome result IsInRange }
+    ensures command { result ≡ option_and_then words_command_by (subcommand_rows_of matches.now) }
+    ensures range { IfSome result IsCommandLineInRange }
 {
     let (name, found) = matches.subcommand()?;
     Command::named(name, found.get_str("N"))
@@ -75,8 +75,8 @@ fn unmatched(kind: ErrorKind) -> Result<Option<Command>, OutOfMemory>
 /// `OutOfMemory`, while the words are compared with the command line.
 pub fn read_words(alloc: Global, words: &[&str]) -> Result<Option<Command>, OutOfMemory>
     ensures command { IfOk result
-        (λ found. found ≡ command_of (map (λ w. w.now) words.now)) }
-    ensures range { IfOk result (λ found. IfSome found IsInRange) }
+        (λ found. found ≡ words_command_of (map (λ w. w.now) words.now)) }
+    ensures range { IfOk result (λ found. IfSome found IsCommandLineInRange) }
 {
     let line = whole_line(alloc)?;
     match line.try_get_matches_from(words) {

@@ -1,7 +1,7 @@
 //! Small scripts and their reports. Each clause is one script; the bodies are empty.
 ghost use Rattle.std.specs.Prelude.{◌≡◌, ◌∷◌, [], codes};
 ghost use Rattle.ptu_world.specs.Report.{report};
-ghost use Rattle.ptu_world.specs.Samples.{script_of, lines_of, no_judges, plenty, gm, slave, one_ask, one_grant, one_denial, empty_datagram, ignored_datagram, turns, messages_of_turns, cancels, acknowledgements, delay_reqs, delay_answers, falling_capacity, shed_grant, both_ends, selected_master, shed_slave, stopped_slave, loss_and_restoration, change_over_and_back, too_many_masters, gaps, selections, to_nobody, nobody, new_class, announced_class};
+ghost use Rattle.ptu_world.specs.Samples.{script_of, lines_of, no_judges, plenty, gm_line, slave_line, one_ask, one_grant, one_denial, empty_datagram, ignored_datagram, turns_script, messages_of_turns, cancels_script, acknowledgements, delay_reqs, delay_answers, falling_capacity, shed_grant, both_ends, selected_master_report, shed_slave, stopped_slave, loss_and_restoration, change_over_and_back, too_many_masters, gaps_script, selections, to_nobody, nobody, new_class, announced_class_report};
 
 /// Scripts without events, and such that are refused.
 pub fn short_scripts()
@@ -9,30 +9,30 @@ pub fn short_scripts()
     ensures comment { report no_judges (codes "# nothing\n\n") ≡ lines_of (codes "end 2 0" ∷ []) }
     ensures no_node { report no_judges (codes "turn 0 10.0.0.9 0")
         ≡ lines_of (codes "1 bad node" ∷ []) }
-    ensures no_datagram { report no_judges (script_of (gm (codes "8 300") ∷ codes "deliver 0 1"
+    ensures no_datagram { report no_judges (script_of (gm_line (codes "8 300") ∷ codes "deliver 0 1"
         ∷ []))
         ≡ lines_of (codes "2 bad number" ∷ []) }
-    ensures datagram_zero { report no_judges (script_of (gm (codes "8 300")
+    ensures datagram_zero { report no_judges (script_of (gm_line (codes "8 300")
         ∷ codes "deliver 0 0" ∷ []))
         ≡ lines_of (codes "2 bad number" ∷ []) }
-    ensures set_up_late { report no_judges (script_of (gm (codes "8 300")
-        ∷ codes "class 10.0.0.1 90" ∷ gm (codes "8 300") ∷ []))
+    ensures set_up_late { report no_judges (script_of (gm_line (codes "8 300")
+        ∷ codes "class 10.0.0.1 90" ∷ gm_line (codes "8 300") ∷ []))
         ≡ lines_of (codes "3 bad order" ∷ []) }
-    ensures set_up_again { report no_judges (script_of (gm (codes "8 300")
-        ∷ gm (codes "8 300") ∷ [])) ≡ lines_of (codes "2 bad node" ∷ []) }
-    ensures other_kind { report no_judges (script_of (gm (codes "8 300")
+    ensures set_up_again { report no_judges (script_of (gm_line (codes "8 300")
+        ∷ gm_line (codes "8 300") ∷ [])) ≡ lines_of (codes "2 bad node" ∷ []) }
+    ensures other_kind { report no_judges (script_of (gm_line (codes "8 300")
         ∷ codes "tick 0 10.0.0.1" ∷ [])) ≡ lines_of (codes "2 bad node" ∷ []) }
-    ensures no_judge { report no_judges (script_of (slave
+    ensures no_judge { report no_judges (script_of (slave_line
         ∷ codes "master 10.0.1.17 10.0.0.1 1 flag" ∷ []))
         ≡ lines_of (codes "2 bad stock" ∷ []) }
-    ensures judge_taken { report (record { flags = 1; gaps = 0 }) (script_of (slave
+    ensures judge_taken { report (record { flags = 1; gaps_script = 0 }) (script_of (slave_line
         ∷ codes "master 10.0.1.17 10.0.0.1 1 flag" ∷ codes "judge 0 10.0.1.17 10.0.0.1 flag" ∷ []))
         ≡ lines_of (codes "3 bad stock" ∷ []) }
-    ensures master_before_judge { report no_judges (script_of (slave
+    ensures master_before_judge { report no_judges (script_of (slave_line
         ∷ codes "judge 0 10.0.1.17 10.0.0.1 flag" ∷ [])) ≡ lines_of (codes "2 bad node" ∷ []) }
-    ensures unknown_master { report plenty (script_of (slave
+    ensures unknown_master { report plenty (script_of (slave_line
         ∷ codes "flag 0 10.0.1.17 10.0.0.1 1" ∷ [])) ≡ lines_of (codes "2 bad node" ∷ []) }
-    ensures master_again { report plenty (script_of (slave
+    ensures master_again { report plenty (script_of (slave_line
         ∷ codes "master 10.0.1.17 10.0.0.1 1 flag" ∷ codes "master 10.0.1.17 10.0.0.1 1 gap" ∷ []))
         ≡ lines_of (codes "3 bad node" ∷ []) }
 {}
@@ -47,9 +47,9 @@ pub fn one_ask_answered()
 /// Delay_Reqs with a credit of two, and a capacity that falls and rises.
 pub fn grandmasters()
     ensures ignored { report no_judges empty_datagram ≡ ignored_datagram }
-    ensures turns { report no_judges turns ≡ messages_of_turns }
-    ensures class { report no_judges new_class ≡ announced_class }
-    ensures cancels { report no_judges cancels ≡ acknowledgements }
+    ensures turns { report no_judges turns_script ≡ messages_of_turns }
+    ensures class { report no_judges new_class ≡ announced_class_report }
+    ensures cancels { report no_judges cancels_script ≡ acknowledgements }
     ensures delay_reqs { report no_judges delay_reqs ≡ delay_answers }
     ensures capacity { report no_judges falling_capacity ≡ shed_grant }
 {}
@@ -62,9 +62,9 @@ pub fn many_masters()
 /// A slave: both ends of a negotiation, a grant that is shed and a stop, two
 /// masters with loss and restoration, its judges, and a datagram to nobody.
 pub fn slaves()
-    ensures both_ends { report plenty both_ends ≡ selected_master }
+    ensures both_ends { report plenty both_ends ≡ selected_master_report }
     ensures shed { report plenty shed_slave ≡ stopped_slave }
     ensures loss { report plenty loss_and_restoration ≡ change_over_and_back }
-    ensures gaps { report plenty gaps ≡ selections }
+    ensures gaps { report plenty gaps_script ≡ selections }
     ensures nobody { report plenty to_nobody ≡ nobody }
 {}

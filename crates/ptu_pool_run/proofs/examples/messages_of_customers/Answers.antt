@@ -15,9 +15,9 @@ use Rattle.ptu_history.specs.Step.{delay_answer}
 use Rattle.ptu_history.specs.{Turns.{due_grants}, Verdict.{others, own_rate, verdict}}
 use Rattle.ptu_gm_messages.specs.{Deciding.{placed}, Items.{items_in, heard_in}}
 use Rattle.ptu_script.specs.Command.{grandmaster_in}
-use Rattle.ptu_pool_run.specs.{Command.{command_of, fields_in}, Poured.{told_by}, Reading.{rules}}
+use Rattle.ptu_pool_run.specs.{Command.{pool_command_of, pool_fields_in}, Poured.{told_in}, Reading.{pool_rules}}
 use Rattle.ptu_pool_run.proofs.examples.messages_of_customers.Goals as goal
 
 pub returns : goal.returns
-unfolding digits grandmaster_in fields_in command_of told_by rules decode_pairs encode_with header_in tlv_in tlvs_in body_in message_in table_step_moment book_step_moment core_history history_after lease_records capacity_in_force last_period earliest lawful last_decision live standing live_grants book_moment table_moment root chain sent_in_chain sequence_number delay_answer due_grants others own_rate verdict octets_sent placed items_in heard_in
+unfolding digits grandmaster_in pool_fields_in pool_command_of told_in pool_rules decode_pairs encode_with header_in tlv_in tlvs_in body_in message_in table_step_moment book_step_moment core_history history_after lease_records capacity_in_force last_period earliest lawful last_decision live standing live_grants book_moment table_moment root chain sent_in_chain sequence_number delay_answer due_grants others own_rate verdict octets_sent placed items_in heard_in
 returns c = record { first = refl; second = refl }

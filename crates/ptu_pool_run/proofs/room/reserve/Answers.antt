@@ -1,5 +1,5 @@
 use Rattle.std.proofs.Common.{◌≡◌, ◌+◌, ◌≤◌, refl, sym, ap, length, List, Some, slice_get, subst}
-use Rattle.ptu_outside.specs.{Departure.{Departure}, MemoryPort.{MemoryPort, octets_of}}
+use Rattle.ptu_outside.specs.{Departure.{Departure}, MemoryPort.{MemoryPort, departure_octets}}
 use Rattle.ptu_grandmaster.specs.Gm.{KeptGm}
 use Rattle.ptu_nodes.specs.GrandmasterPorts.{HasRoom}
 use Rattle.ptu_pool_run.proofs.Lent.{lent_is, on_ok_two, port_left, still_idle, still_sure}
@@ -21,6 +21,6 @@ returns-clause-rest c = (c.reserve.new.self, refl)
 pub returns-clause-room : goal.returns-clause-room
 returns-clause-room c = on_ok_two c.reserve.result (λ room wider gm now.
     subst (HasRoom c.args.datagrams c.args.octets) (sym (port_left c.args.pools.now.gms c.args.place c.args.index c.reserve.new.self gm now))
-    (subst (λ (l : List Departure). (length l + c.args.datagrams ≤ c.reserve.new.self.datagrams) × (octets_of l + c.args.octets ≤ c.reserve.new.self.octets))
+    (subst (λ (l : List Departure). (length l + c.args.datagrams ≤ c.reserve.new.self.datagrams) × (departure_octets l + c.args.octets ≤ c.reserve.new.self.octets))
     (sym (ap (λ (p : MemoryPort). p.sent) c.reserve.ensures.same)) (room, wider)))
     c.reserve.ensures.datagrams c.reserve.ensures.octets

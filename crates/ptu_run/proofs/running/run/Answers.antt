@@ -2,7 +2,7 @@ use Rattle.std.proofs.Common.{rules, inl, inr, arith, ◌≡◌, ◌∙◌, ◌�
 use Rattle.ptu_outside.proofs.Putting.{HasPutPart-none}
 use Rattle.ptu_words.specs.declared.command.Command.{Command}
 use Rattle.ptu_words.specs.declared.command.Command.TheVariants.{Audit, Load, Replay}
-use Rattle.ptu_words.specs.CommandLine.{IsRefused, command_of}
+use Rattle.ptu_words.specs.CommandLine.{AreWordsRefused, words_command_of}
 use Rattle.ptu_words.proofs.Matching.{refused, unnamed}
 use Rattle.ptu_report.specs.declared.fault.RunFault.TheVariants.{OutOfMemory}
 use Rattle.ptu_world.specs.Report.{report_lines}
@@ -15,15 +15,15 @@ use Rattle.ptu_pool_run.proofs.Promising.{keeps_pools}
 use Rattle.ptu_run.proofs.running.run.Goals as goal
 
 -- words that ask for a command are not refused, and ask for no other
-not_refused : (words : List (List ℕ)) (command : Command) → Some command ≡ command_of words → IsRefused words → ⊥
+not_refused : (words : List (List ℕ)) (command : Command) → Some command ≡ words_command_of words → AreWordsRefused words → ⊥
 not_refused words command e h = let never : Some command ≡ None = e ∙ refused words h in absurd (cc)
 
-one_command : (words : List (List ℕ)) (found command : Command) → Some found ≡ command_of words → command_of words ≡ Some command → found ≡ command
+one_command : (words : List (List ℕ)) (found command : Command) → Some found ≡ words_command_of words → words_command_of words ≡ Some command → found ≡ command
 one_command words found command e h = let same : Some found ≡ Some command = e ∙ h in cc
 
 pub returns-in-Ok-Some-clause-words : goal.returns-in-Ok-Some-clause-words
 returns-in-Ok-Some-clause-words g c =
-    let never : IsRefused (map (λ w. w.now) c.args.words.now) → ⊥ =
+    let never : AreWordsRefused (map (λ w. w.now) c.args.words.now) → ⊥ =
     not_refused (map (λ w. w.now) c.args.words.now) c.in-Ok-Some.command (sym c.in-Ok-Some.field-0-is ∙ c.in-Ok-Some.ensures.command) in
     record {
       usage = λ e. absurd (c.run_command.ensures.ended.other e);

@@ -1,6 +1,6 @@
 use Rattle.std.proofs.Common.{[], ◌∷◌, ◌++◌, ◌+◌, ◌∙◌, arith, map, subst, sym}
 use Rattle.ptu_slave_daemon.specs.Running.{HasFailed, RoundTook}
-use Rattle.ptu_slave_daemon.specs.Happenings.{Ticks, arrive, record_after}
+use Rattle.ptu_slave_daemon.specs.Happenings.{Ticks, arrive, record_by_happenings}
 use Rattle.ptu_slave_daemon.proofs.Arrived.{counted_round, round_later, took_append}
 use Rattle.ptu_slave_daemon.proofs.{Ports.{not_fallen_append}, Runs.{ran_append, ran_missed}}
 use Rattle.ptu_slave_daemon.proofs.rounds.happen.Goals as goal
@@ -8,9 +8,9 @@ use Rattle.ptu_slave_daemon.proofs.rounds.happen.Goals as goal
 pub returns-clause-ran : goal.returns-clause-ran
 returns-clause-ran g c = λ node L round h.
     let p = c.in_ok-take_all_general.ensures.took node L h in
-    let q = c.in_ok-take_all_event.ensures.took node (record_after node L p.6.0) p.6.1.stands in
+    let q = c.in_ok-take_all_event.ensures.took node (record_by_happenings node L p.6.0) p.6.1.stands in
     let r = took_append g.P.Port.counts_once node L _ _ _ p.0 q.0 p.1 q.1 p.2 q.2 p.3 0 p.6 q.7 in
-    let t = c.tick.ensures.ran node (record_after node L r.0) round r.1.stands in (
+    let t = c.tick.ensures.ran node (record_by_happenings node L r.0) round r.1.stands in (
       p.0,
       q.0,
       r.0 ++ t.2,

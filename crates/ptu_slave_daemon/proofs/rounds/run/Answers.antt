@@ -4,8 +4,8 @@ use Rattle.std.proofs.lemmas.Result.{err_from_is_err_and, on_err_weaker, on_ok_w
 use Rattle.ptu_outside.specs.Handing.{HasPutPart}
 use Rattle.ptu_outside.proofs.Putting.{HasPutPart-append}
 use Rattle.ptu_slave_daemon.specs.declared.line.SlaveLine.TheVariants.{Closing}
-use Rattle.ptu_slave_daemon.specs.Happenings.{record_after}
-use Rattle.ptu_slave_daemon.specs.Lines.{changes, line_text, selected_line, texts_of}
+use Rattle.ptu_slave_daemon.specs.Happenings.{record_by_happenings}
+use Rattle.ptu_slave_daemon.specs.Lines.{changes, slave_line_text, selected_line, slave_texts}
 use Rattle.ptu_slave_daemon.specs.declared.halt.{Halt.{Halt}, Halt.TheVariants.{Write}}
 use Rattle.ptu_slave_daemon.proofs.{Fronts.{front_rounds, front_run, of_err}, OneRound.{done_run}}
 use Rattle.ptu_slave_daemon.proofs.Written.{part_behind, put_behind}
@@ -21,7 +21,7 @@ returns-clause-done g c =
       put_behind g.K.Sink.written g.K.Sink.handed c.args.sink.now c.run_rounds.new.sink c.write_line.new.sink (map selected_line (changes None done.0)) (Closing c.args.rounds c.stop.new.counts.sent c.stop.new.counts.failed) done.1 put,
       λ node L h.
           let p = done.2 node L h in
-          let t = c.stop.ensures.ran node (record_after node L p.hs) p.ran.stands in
+          let t = c.stop.ensures.ran node (record_by_happenings node L p.hs) p.ran.stands in
           done_run g.P.Port.counts_once node L _ _ _ _ c.args.rounds _ _ _ _ _ _ done.0 c.in_ok-counts.counts c.stop.new.counts t.2 t.0 t.1 p t.3 c.stop.ensures.waiting t.4,
     )) c.write_line.ensures.whole
 
@@ -45,8 +45,8 @@ returns-in_err-counts-clause-part g c =
       d.0,
       0,
       0,
-      subst (HasPutPart g.K.Sink.written g.K.Sink.handed c.args.sink.now c.run_rounds.new.sink) (sym (map-append line_text lines (line ∷ [])))
-          (HasPutPart-append g.K.Sink.written g.K.Sink.handed c.args.sink.now c.run_rounds.new.sink (texts_of lines) (texts_of (line ∷ [])) d.1),
+      subst (HasPutPart g.K.Sink.written g.K.Sink.handed c.args.sink.now c.run_rounds.new.sink) (sym (map-append slave_line_text lines (line ∷ [])))
+          (HasPutPart-append g.K.Sink.written g.K.Sink.handed c.args.sink.now c.run_rounds.new.sink (slave_texts lines) (slave_texts (line ∷ [])) d.1),
     )
 
 -- the sink failed in the closing line
@@ -58,7 +58,7 @@ returns-clause-stopped g c = λ is.
           (of_err c.write_line.result Write is c.write_line.ensures.part),
       λ node L h.
           let p = done.2 node L h in
-          let t = c.stop.ensures.ran node (record_after node L p.hs) p.ran.stands in
+          let t = c.stop.ensures.ran node (record_by_happenings node L p.hs) p.ran.stands in
           front_run g.P.Port.counts_once node L _ _ _ _ _ _ _ _ c.args.rounds done.0 c.stop.new.counts.sent c.stop.new.counts.failed
           (done_run g.P.Port.counts_once node L _ _ _ _ c.args.rounds _ _ _ _ _ _ done.0 c.in_ok-counts.counts c.stop.new.counts t.2 t.0 t.1 p t.3 c.stop.ensures.waiting t.4),
     )

@@ -2,7 +2,7 @@ use Rattle.std.proofs.Common.{[], ◌∷◌, ◌++◌, ◌+◌, ◌≡◌, ◌�
 use Rattle.std.proofs.lemmas.Result.{err_from_is_err_and}
 use Rattle.ptu_outside.proofs.Putting.{HasPut-none, HasPutPart-whole}
 use Rattle.ptu_slave_daemon.specs.declared.counts.Counts.{Counts}
-use Rattle.ptu_slave_daemon.specs.{Happenings.{Selection, record_after}, Lines.{changes}}
+use Rattle.ptu_slave_daemon.specs.{Happenings.{Selection, record_by_happenings}, Lines.{changes}}
 use Rattle.ptu_slave_daemon.proofs.OneRound.{done_more, done_none}
 use Rattle.ptu_slave_daemon.proofs.Written.{part_of_selection, said_after-push, selection_behind}
 use Rattle.ptu_slave_daemon.proofs.rounds.run_rounds.Goals as goal
@@ -37,7 +37,7 @@ loop-before-preserved g c =
         selection_behind g.K.Sink.written g.K.Sink.handed c.args.sink.now c.loop-before.sink c.say.new.sink c.loop-before.said done.0 s done.1 done.2 c.in_ok-say.ensures.whole,
         λ node L h.
             let p = done.3 node L h in
-            let q = c.in-Ok.ensures.ran node (record_after node L p.hs) (c.loop-before.before + 1) p.ran.stands in
+            let q = c.in-Ok.ensures.ran node (record_by_happenings node L p.hs) (c.loop-before.before + 1) p.ran.stands in
             done_more g.P.Port.counts_once node L _ _ _ _ c.loop-before.before _ _ _ _ _ _ _ _ done.0 s c.loop-before.counts c.happen.new.counts q.0 q.1 q.2 q.3 q.4 q.5 q.6 p q.7 q.8 q.9 q.10 q.11,
       );
     }
@@ -69,7 +69,7 @@ returns-in_err-say-clause-stopped g c = λ is.
       part_of_selection g.K.Sink.written g.K.Sink.handed c.args.sink.now c.loop-before.sink c.say.new.sink c.loop-before.said done.0 s done.1 done.2 c.in_err-say.ensures.part,
       λ node L h.
           let p = done.3 node L h in
-          let q = c.in-Ok.ensures.ran node (record_after node L p.hs) (c.loop-before.before + 1) p.ran.stands in
+          let q = c.in-Ok.ensures.ran node (record_by_happenings node L p.hs) (c.loop-before.before + 1) p.ran.stands in
           done_more g.P.Port.counts_once node L _ _ _ _ c.loop-before.before _ _ _ _ _ _ _ _ done.0 s c.loop-before.counts c.happen.new.counts q.0 q.1 q.2 q.3 q.4 q.5 q.6 p q.7 q.8 q.9 q.10 q.11,
     )
 

@@ -1,10 +1,10 @@
 use Rattle.ptu_slave.specs.Seen.{seen}
-use Rattle.ptu_slave_daemon.specs.Running.{Grows, TookGeneral}
+use Rattle.ptu_slave_daemon.specs.Running.{CountsGrow, TookGeneral}
 use Rattle.ptu_slave_daemon.proofs.Arrived.{CameSoFar}
 use Rattle.ptu_slave_daemon.proofs.taking.take_all_general.Given as goal
 
 abbrev pub invariant-loop-taken : goal.invariant-loop-taken
 invariant-loop-taken g l = record {
-  grows : Grows l._taken l.fn.counts l.counts;
+  grows : CountsGrow l._taken l.fn.counts l.counts;
   took : TookGeneral g.P.Port g.C.Clock (seen (λ j. (goal.Judge-dyn g (j.vtable, j.value)).Judge.held j.value) l.fn.slave) (seen (λ j. (goal.Judge-dyn g (j.vtable, j.value)).Judge.held j.value) l.slave) l.fn.clock l.clock (CameSoFar l._taken) l.fn.counts l.counts;
 }

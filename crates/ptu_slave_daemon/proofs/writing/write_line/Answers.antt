@@ -1,7 +1,7 @@
 use Rattle.std.proofs.Common.{subst, [], ◌∷◌, ◌∙◌}
 use Rattle.ptu_outside.specs.Handing.{HasPutPart}
 use Rattle.ptu_outside.proofs.Putting.{HasPutPart-front, HasPutPart-none}
-use Rattle.ptu_slave_daemon.specs.Lines.{texts_of}
+use Rattle.ptu_slave_daemon.specs.Lines.{slave_texts}
 use Rattle.ptu_slave_daemon.proofs.writing.write_line.Goals as goal
 
 pub returns-clause-part : goal.returns-clause-part
@@ -10,4 +10,4 @@ returns-clause-part g c =
     (HasPutPart-front g.K.Sink.written g.K.Sink.handed c.args.sink.now c.write_whole.new.sink c.as_bytes.result.now c.in-Err.ensures.part)
 
 pub returns-in_default-clause-part : goal.returns-in_default-clause-part
-returns-in_default-clause-part g c = HasPutPart-none g.K.Sink.written g.K.Sink.handed c.args.sink.now (texts_of (c.args.line ∷ []))
+returns-in_default-clause-part g c = HasPutPart-none g.K.Sink.written g.K.Sink.handed c.args.sink.now (slave_texts (c.args.line ∷ []))

@@ -2,7 +2,7 @@ use Rattle.std.proofs.Common.{◌≡◌, ◌∙◌, sym, ap, Some}
 use Rattle.std.specs.Prelude.{codes, option_and_then, option_map}
 use Rattle.clap.specs.Words.{found_of, rows_of, subcommand_rows_of}
 use Rattle.clap.proofs.WalkLemmas.{first_value-rows}
-use Rattle.ptu_words.specs.CommandLine.{command_by, command_named}
+use Rattle.ptu_words.specs.CommandLine.{words_command_by, command_named}
 use Rattle.ptu_words.proofs.Matching.{first_parts, pair_is}
 use Rattle.ptu_words.proofs.reading.command_in.Goals as goal
 
@@ -15,4 +15,4 @@ returns-clause-command c =
     let kept : option_map (λ p. p.1) (subcommand_rows_of m) ≡ Some rows = sym c.in_ok-name.ensures.rows in
     let is : subcommand_rows_of m ≡ Some (c.in_ok-name.name.now, rows) = pair_is c.in_ok-name.name.now rows (subcommand_rows_of m) name kept in
     c.named.ensures.command ∙ ap (command_named c.in_ok-name.name.now) (c.get_str.ensures ∙ first_value-rows (found_of c.in_ok-name.found.now) (codes "N"))
-    ∙ sym (ap (option_and_then command_by) is)
+    ∙ sym (ap (option_and_then words_command_by) is)

@@ -4,7 +4,7 @@ use Rattle.std.specs.Prelude.{option_and_then}
 use Rattle.clap.specs.{Kinds.{HasKind, IsAmong}, declared.error.Error.{Error}}
 use Rattle.clap.specs.declared.error.kind.ErrorKind.TheVariants.{OutOfMemory}
 use Rattle.clap.specs.Words.{Kinds, Text, app_of, kind_of, fault_of, is_simple, is_simple_and_free, subcommand_of, subcommand_rows_of}
-use Rattle.ptu_words.specs.CommandLine.{command_by, command_line}
+use Rattle.ptu_words.specs.CommandLine.{words_command_by, command_line}
 use Rattle.ptu_words.proofs.Matching.{asked, free, simple, unmatched}
 use Rattle.ptu_words.proofs.reading.read_words.Goals as goal
 
@@ -16,7 +16,7 @@ returns-in-Ok-clause-command c =
     let rows : subcommand_rows_of m ≡ subcommand_of command_line words =
     (c.in-Ok.ensures.matches (ap is_simple is ∙ simple)).1 ∙ ap (λ a. subcommand_of a words) is in
     let matched : fault_of command_line words ≡ [] = sym (ap (λ a. fault_of a words) is) ∙ c.in-Ok.ensures.kinds (ap is_simple_and_free is ∙ free) in
-    c.command_in.ensures.command ∙ (ap (option_and_then command_by) rows ∙ asked words matched)
+    c.command_in.ensures.command ∙ (ap (option_and_then words_command_by) rows ∙ asked words matched)
 
 -- the error has a kind that comes of the words
 has_kind : (kinds : Kinds) (error : Error) → HasKind kinds error → kind_of error ≢ OutOfMemory → kinds ≢ []

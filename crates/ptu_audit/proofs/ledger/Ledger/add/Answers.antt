@@ -2,7 +2,7 @@ use Rattle.std.proofs.Common.{◌≡◌, ◌∙◌, ◌++◌, List, Some, None, 
 use Rattle.std.specs.{BTreeMap.{get}, Option.{IsSome, option_copied_mut}}
 use Rattle.std.specs.Prelude.{Result, Ok, Err, IfOk}
 use Rattle.ptu_trail.proofs.Accounts.{if_none_map}
-use Rattle.ptu_audit.specs.{Standing.{IsKept}, Trails.{records_of}}
+use Rattle.ptu_audit.specs.{Standing.{IsTrailKept}, Trails.{records_of}}
 use Rattle.ptu_audit.proofs.Ledgers.{others_now, there_now}
 use Rattle.ptu_audit.proofs.ledger.Ledger.add.Goals as goal
 
@@ -12,7 +12,7 @@ if_ok_map (Err e) f p = tt
 
 pub returns-in-Some-clause-fault : goal.returns-in-Some-clause-fault
 returns-in-Some-clause-fault c = if_ok_map c.put.result (λ fault says history kept.
-    says c.args.self.now.capacity history (subst (λ o. IsKept c.args.self.now.capacity o history) (sym c.get_mut.ensures.value ∙ ap option_copied_mut c.in-Some.is) kept)) c.put.ensures.fault
+    says c.args.self.now.capacity history (subst (λ o. IsTrailKept c.args.self.now.capacity o history) (sym c.get_mut.ensures.value ∙ ap option_copied_mut c.in-Some.is) kept)) c.put.ensures.fault
 
 pub returns-in-Some-clause-stands : goal.returns-in-Some-clause-stands
 returns-in-Some-clause-stands c =
@@ -22,8 +22,8 @@ returns-in-Some-clause-stands c =
     let some : IsSome (old c.args.grandmaster) = subst IsSome (sym (ap option_copied_mut c.in-Some.is) ∙ c.get_mut.ensures.value) refl in
     let now : new c.args.grandmaster ≡ Some c.put.new.trail = there_now c.args.grandmaster c.put.new.trail old new ((c.get_mut.follows.holds c.put.new.trail).3 some).0 in
     if_ok_map c.put.result (λ fault. if_none_map fault (λ none says history kept.
-    subst (λ o. IsKept n o (history ++ records_of history c.args.deed.now)) (sym now)
-    (says n history (subst (λ o. IsKept n o history) (sym c.get_mut.ensures.value ∙ ap option_copied_mut c.in-Some.is) kept)))) c.put.ensures.stands
+    subst (λ o. IsTrailKept n o (history ++ records_of history c.args.deed.now)) (sym now)
+    (says n history (subst (λ o. IsTrailKept n o history) (sym c.get_mut.ensures.value ∙ ap option_copied_mut c.in-Some.is) kept)))) c.put.ensures.stands
 
 pub returns-in-Some-clause-others : goal.returns-in-Some-clause-others
 returns-in-Some-clause-others c =

@@ -1,7 +1,7 @@
 use Rattle.std.proofs.Common.{◌≤◌, ◌+◌, length, refl, rules}
 use Rattle.std.specs.Vec.{vec_capacity}
 use Rattle.std.proofs.lemmas.List.{length-map}
-use Rattle.ptu_outside.specs.MemoryPort.{departure_of}
+use Rattle.ptu_outside.specs.MemoryPort.{slot_departure}
 use Rattle.ptu_outside.proofs.Slots.{octets_of-departures}
 use Rattle.ptu_outside.proofs.Sure.{first_fits, others_fit, unlisted}
 use Rattle.ptu_outside.proofs.mem_port.MemPortPort.send.Goals.{then-contains-via-then-contains, then-contains-via-else-contains+then-is_err}
@@ -13,7 +13,7 @@ returns-then-contains-clause-fits c =
       | then-contains-via-then-contains w ↦ λ unlisted slots octets. absurd (unlisted (search rules))
       | then-contains-via-else-contains+then-is_err w ↦ λ unlisted slots octets.
           let inside = c.self.inside in
-          let one : length inside.slots.items + 1 ≤ vec_capacity inside.slots = rw (← c.self.view_is, length-map inside.slots.items (departure_of inside.octets.items)) at slots in
+          let one : length inside.slots.items + 1 ≤ vec_capacity inside.slots = rw (← c.self.view_is, length-map inside.slots.items (slot_departure inside.octets.items)) at slots in
           let fits : length inside.octets.items + length c.args.bytes.now ≤ vec_capacity inside.octets = rw (← c.self.view_is, octets_of-departures inside.octets.items inside.slots.items c.self.invariant.0) at octets in
           let done = w.add.ensures.fits one fits in search rules
     ]

@@ -1,6 +1,6 @@
 use Rattle.std.proofs.Common.{◌∙◌, ap, length, map, subst}
 use Rattle.ptu_outside.specs.HandsOver.{HandsOver}
-use Rattle.ptu_slave_messages.specs.Sending.{all_ones, departure_of}
+use Rattle.ptu_slave_messages.specs.Sending.{all_ones, sending_departure}
 use Rattle.ptu_slave.specs.{Kept.{Kept}, Seen.{seen}}
 use Rattle.ptu_slave.proofs.Ticking.{tick_states, ticked}
 use Rattle.ptu_slave.proofs.slave.Slave.tick.Goals as goal
@@ -25,8 +25,8 @@ returns-clause-ticked g c =
       sends = (
         handed,
         subst (λ ds. HandsOver g.P.Port c.args.self.now.port c.tick_all-sends.new.port ds c.tick_all-sends.result.sent c.tick_all-sends.result.failed)
-            (ap (λ (k : Kept). map (departure_of k.config k.masters all_ones) handed) judged.2.rest
-            ∙ ap (λ (k : Kept). map (departure_of k.config k.masters all_ones) handed) c.begin-at.ensures.rest)
+            (ap (λ (k : Kept). map (sending_departure k.config k.masters all_ones) handed) judged.2.rest
+            ∙ ap (λ (k : Kept). map (sending_departure k.config k.masters all_ones) handed) c.begin-at.ensures.rest)
             c.tick_all-sends.ensures.sends.2,
         λ openings L h.
             tick_states openings c.args.self.now.core c.begin-at.new.self c.judge_all.new.core c.tick_all-sends.new.core _ _ L c.args.t c.begin-at.result judged.0 handed
