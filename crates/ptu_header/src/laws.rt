@@ -10,7 +10,7 @@ ghost use Rattle.ptu_header.specs.declared.header.Header.{Header};
 ghost use Rattle.ptu_header.specs.declared.fault.HeaderFault.{HeaderFault};
 
 /// Every list of octets spells one header with one messageLength, or has one fault, and never both.
-pub fn one_reading()
+pub fn one_header_reading()
     ensures one_or_other { (octets : List ℕ) →
         ((h : Header) × (n : ℕ) × SpellsHeader octets h n)
         ⊎ ((f : HeaderFault) × HasHeaderFault octets f) }
@@ -23,7 +23,7 @@ pub fn one_reading()
 {}
 
 /// Octets spell only headers whose fields fit them, and each such header is read where it was sent.
-pub fn sent_is_read()
+pub fn sent_header_is_read()
     ensures widths { (octets : List ℕ) (h : Header) (n : ℕ) → All (λ o. o < 256) octets →
         SpellsHeader octets h n → HasWidths h }
     ensures again { (h : Header) (n : ℕ) → HasWidths h → 34 ≤ n → n < 2 ^ 16 →
@@ -31,7 +31,7 @@ pub fn sent_is_read()
 {}
 
 /// The reading of octets and the relations on them say the same.
-pub fn reading_is_spelling()
+pub fn header_reading_is_spelling()
     ensures found { (octets : List ℕ) (h : Header) (n : ℕ) → (header_in octets ≡ Ok (h, n))
         ↔ SpellsHeader octets h n }
     ensures refused { (octets : List ℕ) (f : HeaderFault) → (header_in octets ≡ Err f)

@@ -10,6 +10,6 @@ mod writing;
 
 pub use fault::HeaderFault;
 pub use header::{Header, PortIdentity};
-pub use laws::{one_reading, reading_is_spelling, sample_headers, sent_is_read};
+pub use laws::{one_header_reading, header_reading_is_spelling, sample_headers, sent_header_is_read};
 pub use reading::read_header;
 pub use writing::write_header;

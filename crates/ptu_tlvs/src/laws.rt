@@ -9,7 +9,7 @@ ghost use Rattle.ptu_tlvs.specs.Samples.{TlvsAreSpelled, TlvFaultsAreFound, Tlvs
 ghost use Rattle.ptu_tlvs.specs.{declared.tlv.Tlv.{Tlv}, declared.fault.TlvFault.{TlvFault}};
 
 /// Every list of octets begins with one TLV of one size, or has one fault, and never both.
-pub fn one_reading()
+pub fn one_tlv_reading()
     ensures one_or_other { (octets : List ℕ) →
         ((v : Tlv) × (size : ℕ) × BeginsWithTlv octets v size)
         ⊎ ((f : TlvFault) × HasTlvFault octets f) }
@@ -23,7 +23,7 @@ pub fn one_reading()
 
 /// Octets spell only TLVs whose fields fit them. What spells a TLV begins whatever it stands
 /// before, and each TLV that is sent is read.
-pub fn sent_is_read()
+pub fn sent_tlv_is_read()
     ensures widths { (octets : List ℕ) (v : Tlv) → All (λ o. o < 256) octets → SpellsTlv octets v →
         HasWidths v }
     ensures begins { (front : List ℕ) (v : Tlv) → SpellsTlv front v → AlwaysBeginsWithTlv front v }
@@ -31,7 +31,7 @@ pub fn sent_is_read()
 {}
 
 /// The reading of octets and the relations on them say the same.
-pub fn reading_is_spelling()
+pub fn tlv_reading_is_spelling()
     ensures found { (octets : List ℕ) (v : Tlv) (size : ℕ) → (tlv_in octets ≡ Ok (v, size))
         ↔ BeginsWithTlv octets v size }
     ensures refused { (octets : List ℕ) (f : TlvFault) → (tlv_in octets ≡ Err f)

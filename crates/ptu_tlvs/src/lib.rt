@@ -9,7 +9,7 @@ mod tlv;
 mod writing;
 
 pub use fault::TlvFault;
-pub use laws::{one_reading, reading_is_spelling, sample_tlvs, sent_is_read};
+pub use laws::{one_tlv_reading, tlv_reading_is_spelling, sample_tlvs, sent_tlv_is_read};
 pub use reading::next_tlv;
 pub use tlv::{Ask, Tlv};
 pub use writing::write_tlv;

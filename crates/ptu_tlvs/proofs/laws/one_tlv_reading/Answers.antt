@@ -1,5 +1,5 @@
 use Rattle.ptu_tlvs.proofs.Readings.{one_or_other, never_both, one_tlv}
-use Rattle.ptu_tlvs.proofs.laws.one_reading.Goals as goal
+use Rattle.ptu_tlvs.proofs.laws.one_tlv_reading.Goals as goal
 
 pub returns-clause-one_or_other : goal.returns-clause-one_or_other
 returns-clause-one_or_other c = one_or_other

@@ -1,5 +1,5 @@
 use Rattle.ptu_header.proofs.Readings.{found_is, refused_is, header_in-spelled, header_in-faulty}
-use Rattle.ptu_header.proofs.laws.reading_is_spelling.Goals as goal
+use Rattle.ptu_header.proofs.laws.header_reading_is_spelling.Goals as goal
 
 pub returns-clause-found : goal.returns-clause-found
 returns-clause-found c = λ octets header n. (found_is octets header n, header_in-spelled octets header n)
