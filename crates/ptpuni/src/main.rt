@@ -19,7 +19,7 @@ use ptu_judges::{FlagJudge, GapJudge, Judge, NAMED_GAP, Rule, Stock};
 use ptu_outside::{Host, StdSink, StdSource};
 use ptu_run::{OUT_OF_MEMORY, USAGE, run, run_in_blocks, texts_of, waits_for_lines};
 use ptu_udp::UdpHost;
-use ptu_words::USAGE_TEXT;
+use ptu_run::USAGE_TEXT;
 use std::alloc::AllocError;
 use std::env::Env;
 use std::io::{ErrorKind, IsTerminal, Stdin, Stdout};

@@ -20,7 +20,7 @@ use ptu_history::{Client, table_of};
 use ptu_outside::Port;
 use ptu_profile::GmConfig;
 use ptu_shard::Shard;
-use ptu_tlvs::Ask;
+use ptu_messages::Ask;
 use ptu_units::{Moment, rate};
 
 /// Decides an ask over the client's table alone, at the greatest of `t`, the book's moment and the

@@ -5,7 +5,7 @@ ghost use Rattle.ptu_history.specs.Verdict.{profile};
 ghost use Rattle.ptu_admit.specs.Verdict.{ask_of, cause_of};
 
 use crate::verdict::Outside;
-use ptu_tlvs::Ask;
+use ptu_messages::Ask;
 use ptu_units::{Kind, Log};
 
 /// The shortest duration that may be asked for, in seconds.

@@ -6,7 +6,7 @@ ghost use Rattle.ptu_audit.specs.Texts.{answer_text, cause_text, no_text, refusa
 use crate::answer::{Answer, AuditCause};
 use ptu_trail::NoCause;
 use ptu_units::OutOfMemory;
-use ptu_writing::{Draft, LineText, Text};
+use ptu_lines::{Draft, LineText, Text};
 use std::fmt;
 
 impl AuditCause {

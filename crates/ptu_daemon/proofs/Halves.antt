@@ -4,13 +4,13 @@ use Rattle.std.specs.List.{AllByRecursion, items_where_true}
 use Rattle.std.proofs.lemmas.Bool.{ne_eqb}
 use Rattle.ptu_units.specs.declared.kind.{Kind.{Kind}, Kind.TheVariants.{Announce, Sync, DelayResp}}
 use Rattle.ptu_units.specs.Kind.{code_of}
-use Rattle.ptu_octets.specs.Number.{low_nibble_at}
+use Rattle.ptu_units.specs.Number.{low_nibble_at}
 use Rattle.ptu_outside.specs.declared.channel.Channel.TheVariants as channels
 use Rattle.ptu_outside.specs.Departure.{Departure}
-use Rattle.ptu_header.specs.declared.header.{Header.{Header}, PortIdentity.{PortIdentity}}
-use Rattle.ptu_header.specs.{declared.fault.HeaderFault.{HeaderFault}, Reading.{header_in}}
-use Rattle.ptu_header.proofs.Readings.{found_is}
-use Rattle.ptu_tlvs.specs.declared.tlv.{Tlv.{Tlv}, Tlv.TheVariants.{Cancel}}
+use Rattle.ptu_messages.specs.declared.header.{Header.{Header}, PortIdentity.{PortIdentity}}
+use Rattle.ptu_messages.specs.{declared.header_fault.HeaderFault.{HeaderFault}, HeaderReading.{header_in}}
+use Rattle.ptu_messages.proofs.HeaderReadings.{found_is}
+use Rattle.ptu_messages.specs.declared.tlv.{Tlv.{Tlv}, Tlv.TheVariants.{Cancel}}
 use Rattle.ptu_messages.specs.declared.message.Message.{Message}
 use Rattle.ptu_history.specs.{declared.client.Client.{Client}, Client.{table_of}}
 use Rattle.ptu_history.specs.{Core.{core_moment}, Counts.{counts}}
@@ -35,9 +35,9 @@ use Rattle.ptu_grandmaster.specs.declared.driving.GmEvent.TheVariants.{Take, Tur
 use Rattle.ptu_lanes.specs.Rounds.{Exchange, answers_of, replies, reply_if_any, reply_in, reply_with}
 use Rattle.ptu_lanes.specs.Served.{replies_around}
 use Rattle.ptu_daemon.specs.Sends.{Standing, event_sends, heard_sends, sends_by, standing_after}
-use Rattle.ptu_twostep.specs.{Pairs.{step_at}, Steps.{has_two_steps, step_by, step_read, step_of}}
-use Rattle.ptu_twostep.specs.declared.step.Step.TheVariants.{OneStepSync, TwoStepSync, FollowUp, Other}
-use Rattle.ptu_twostep.specs.Telling.{is_half}
+use Rattle.ptu_daemon.specs.{Pairs.{step_at}, Steps.{has_two_steps, step_by, step_read, step_of}}
+use Rattle.ptu_daemon.specs.declared.step.Step.TheVariants.{OneStepSync, TwoStepSync, FollowUp, Other}
+use Rattle.ptu_daemon.specs.Telling.{is_half}
 
 -- ---- octets
 

@@ -6,15 +6,15 @@ use Rattle.ptu_outside.specs.declared.{opened.Opened.{Opened}, port.Port.{Ghosts
 use Rattle.ptu_outside.specs.{Departure.{Departure}, Handing.{HasPut, HasPutFront}, Telling.{IfTold, append_told}}
 use Rattle.ptu_outside.specs.{Faults.{HasRisen}, HandsOver.{SentOf}}
 use Rattle.ptu_config.specs.{declared.settings.GmSettings.{GmSettings}, Rounds.{all_rounds}}
-use Rattle.ptu_rounds.specs.{Handed.{SentPart, WasHanded}, Ports.{HaveNotRisen}}
-use Rattle.ptu_rounds.specs.declared.fault.DaemonFault.{DaemonFault}
-use Rattle.ptu_rounds.specs.declared.fault.DaemonFault.TheVariants as faults
+use Rattle.ptu_outside.specs.{Handed.{SentPart, WasHanded}, Ports.{HaveNotRisen}}
+use Rattle.ptu_outside.specs.declared.fault.DaemonFault.{DaemonFault}
+use Rattle.ptu_outside.specs.declared.fault.DaemonFault.TheVariants as faults
 use Rattle.ptu_shared.specs.{Histories.{SendsLawfully}, Opening.{seen_of}}
 use Rattle.ptu_lanes.specs.{Sending.{GoesOn, WasSent}, Served.{ExchangedAll, ServesByLanes, faults_of, replies_around}}
-use Rattle.ptu_twostep.specs.{declared.two_host.Flags.{Flags}, Hosts.{clear, flagged_by, over, two_steps}}
-use Rattle.ptu_twostep.specs.declared.step.Step.TheVariants.{Other}
-use Rattle.ptu_twostep.specs.{Pairs.{pair, pair_by, pairs, step_at}, Telling.{ceases_in_two, is_half, told_by}}
-use Rattle.ptu_twostep.proofs.Pairs.{grown-pairs}
+use Rattle.ptu_daemon.specs.{declared.two_host.Flags.{Flags}, Hosts.{clear, flagged_by, over, two_steps}}
+use Rattle.ptu_daemon.specs.declared.step.Step.TheVariants.{Other}
+use Rattle.ptu_daemon.specs.{Pairs.{pair, pair_by, pairs, step_at}, Telling.{ceases_in_two, is_half, told_by}}
+use Rattle.ptu_daemon.proofs.Pairs.{grown-pairs}
 use Rattle.ptu_daemon.specs.{Answers.{HasAnswered}, Events.{Given, config_of, served_events}}
 use Rattle.ptu_daemon.specs.Served.{Said, closing_line, numbers_in, opened_as, served_by}
 use Rattle.ptu_daemon.specs.Serving.{AreServed, HasServed, IsGiven, Serves, ServesEitherWay}

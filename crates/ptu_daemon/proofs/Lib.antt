@@ -11,3 +11,6 @@ pub mod Lawful
 pub mod Finishing
 pub mod Halves
 pub mod InTwo
+mod Steps
+pub mod Pairs
+mod Handing

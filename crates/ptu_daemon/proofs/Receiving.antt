@@ -7,7 +7,7 @@ use Rattle.ptu_outside.specs.declared.{clock.Clock.{Ghosts as Clocks}, failed.Fa
 use Rattle.ptu_outside.specs.declared.port.Port.{Ghosts as Ports}
 use Rattle.ptu_outside.specs.Telling.{IfTold, IsEmptyTold, IsFirstTold, rest_told}
 use Rattle.ptu_outside.proofs.HandsOver.{just_once}
-use Rattle.ptu_rounds.specs.Taken.{Gave}
+use Rattle.ptu_outside.specs.Taken.{Gave}
 use Rattle.ptu_daemon.specs.declared.daemon.Daemon.{Daemon}
 use Rattle.ptu_daemon.specs.Ran.{Handled, Ran, Received, Receives, arrived}
 use Rattle.ptu_daemon.proofs.Handling.{handled_idle, handled_quietly, handled_same}

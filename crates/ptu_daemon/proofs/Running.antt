@@ -9,9 +9,9 @@ use Rattle.ptu_history.specs.{Core.{history_after}, History.{Record}}
 use Rattle.ptu_history.proofs.Histories.{history_after-append}
 use Rattle.ptu_gm_messages.specs.Deciding.{opened_with}
 use Rattle.ptu_grandmaster.specs.{declared.driving.GmEvent.{GmEvent}, Driven.{events_of}, Gm.{StandsFor}}
-use Rattle.ptu_rounds.specs.Rounds.{moments_after, next_of, timed}
-use Rattle.ptu_rounds.specs.Taken.{Gave}
-use Rattle.ptu_rounds.proofs.Taken.{happened-append}
+use Rattle.ptu_outside.specs.Rounds.{moments_after, next_of, timed}
+use Rattle.ptu_outside.specs.Taken.{Gave}
+use Rattle.ptu_outside.proofs.Taken.{happened-append}
 use Rattle.ptu_daemon.specs.{declared.daemon.Daemon.{Daemon}, Events.{Happening, Takes}}
 use Rattle.ptu_daemon.specs.Ran.{AllHandled, Does, Handled, Ran, after_all, five, standing_as}
 use Rattle.ptu_daemon.specs.Sends.{Standing, event_sends, sends_by, standing_after}

@@ -1,7 +1,7 @@
 -- That a datagram was taken.
 use Rattle.std.proofs.Common.{◌≡◌, ◌↔◌, ℕ, ◌+◌, ◌%◌, ◌<◌, ◌==◌, Bool, true, false, if◌then◌else◌, List, [], ◌∷◌, map, refl, sym, ap, ap₂, subst, arith, Result, Ok, Err}
 use Rattle.ptu_outside.specs.{declared.port.Port.{Ghosts as Ports}, Departure.{Departure}}
-use Rattle.ptu_header.specs.declared.header.Header.{Header}
+use Rattle.ptu_messages.specs.declared.header.Header.{Header}
 use Rattle.ptu_history.specs.{Client.{table_of}, Core.{history_after, table_step_moment}}
 use Rattle.ptu_history.specs.{History.{Record}, Step.{delay_answer}}
 use Rattle.ptu_shard.specs.declared.answered.Answered.{Answered}

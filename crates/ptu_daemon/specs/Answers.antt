@@ -3,9 +3,9 @@ use Rattle.std.specs.Prelude.{◌≡◌, ◌≢◌, ◌∷◌, [], ℕ, Option, 
 use Rattle.ptu_outside.specs.declared.{endpoint.Endpoint.{Endpoint}, sink.Sink.{Ghosts as Sinks}}
 use Rattle.ptu_outside.specs.{Faults.{HasRisen}, Handing.{HasPut, HasPutFront}}
 use Rattle.ptu_config.specs.{declared.settings.GmSettings.{GmSettings}, Rounds.{all_rounds}}
-use Rattle.ptu_rounds.specs.declared.fault.DaemonFault.{DaemonFault}
-use Rattle.ptu_rounds.specs.declared.fault.DaemonFault.TheVariants.{Open, Write}
-use Rattle.ptu_rounds.specs.Opening.{OpenedAt}
+use Rattle.ptu_outside.specs.declared.fault.DaemonFault.{DaemonFault}
+use Rattle.ptu_outside.specs.declared.fault.DaemonFault.TheVariants.{Open, Write}
+use Rattle.ptu_outside.specs.Opening.{OpenedAt}
 use Rattle.ptu_daemon.specs.{Events.{endpoint_of}, Served.{Said, closing_line}}
 
 -- The daemon of these settings answers so, over a host that opened there and had so many faults. `IsServed` says what was served where

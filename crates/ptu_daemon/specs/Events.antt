@@ -5,7 +5,7 @@ use Rattle.ptu_profile.specs.declared.grandmaster.GmConfig.{GmConfig}
 use Rattle.ptu_grandmaster.specs.declared.driving.GmEvent.{GmEvent}
 use Rattle.ptu_grandmaster.specs.declared.driving.GmEvent.TheVariants.{Take, Turn, Capacity}
 use Rattle.ptu_config.specs.{declared.settings.GmSettings.{GmSettings}, Rounds.{all_rounds}}
-use Rattle.ptu_rounds.specs.{Rounds.{in_rounds, moments_after, taken_in, timed}, Taken.{Round, in_these}}
+use Rattle.ptu_outside.specs.{Rounds.{in_rounds, moments_after, taken_in, timed}, Taken.{Round, in_these}}
 
 -- how the grandmaster is set up
 abbrev pub config_of : GmSettings → GmConfig

@@ -3,7 +3,7 @@
 use Rattle.std.specs.Prelude.{◌≡◌, ℕ, ◌==◌, if◌then◌else◌, filter_map, List, [], ◌∷◌, ◌++◌, length, Option, None, Ok}
 use Rattle.std.specs.List.{cons_option}
 use Rattle.ptu_outside.specs.Departure.{Departure}
-use Rattle.ptu_tlvs.specs.declared.tlv.Tlv.{Tlv}
+use Rattle.ptu_messages.specs.declared.tlv.Tlv.{Tlv}
 use Rattle.ptu_history.specs.{Client.{table_of}, History.{Record, Sent}}
 use Rattle.ptu_laws.specs.Promises.{KeepsPromises}
 use Rattle.ptu_gm_messages.specs.declared.heard.Heard.TheVariants as heard

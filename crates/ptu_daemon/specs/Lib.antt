@@ -7,3 +7,7 @@ pub mod Serving
 pub mod Counting
 pub mod Ran
 pub mod ServingInTwo
+pub mod Steps
+pub mod Pairs
+pub mod Telling
+pub mod Hosts

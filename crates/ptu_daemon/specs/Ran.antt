@@ -11,8 +11,8 @@ use Rattle.ptu_history.specs.History.{Record}
 use Rattle.ptu_grandmaster.specs.{declared.driving.GmEvent.{GmEvent}, Gm.{KeptGm, StandsFor}}
 use Rattle.ptu_lanes.specs.Sending.{GoesOn, WasSent}
 use Rattle.ptu_config.specs.declared.settings.GmSettings.{GmSettings}
-use Rattle.ptu_rounds.specs.Rounds.{in_rounds, left_after, most}
-use Rattle.ptu_rounds.specs.Taken.{Gave, HappenedAt, HaveTaken, IsWithin, Round, event_of, general_of}
+use Rattle.ptu_outside.specs.Rounds.{in_rounds, left_after, most}
+use Rattle.ptu_outside.specs.Taken.{Gave, HappenedAt, HaveTaken, IsWithin, Round, event_of, general_of}
 use Rattle.ptu_daemon.specs.declared.{daemon.Daemon.{Daemon}, next.Next.{Next}}
 use Rattle.ptu_daemon.specs.declared.next.Next.TheVariants as nexts
 use Rattle.ptu_daemon.specs.declared.tally.Tally.{Tally}

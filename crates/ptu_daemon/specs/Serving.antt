@@ -5,8 +5,8 @@ use Rattle.ptu_outside.specs.declared.{opened.Opened.{Opened}, port.Port.{Ghosts
 use Rattle.ptu_outside.specs.Telling.{IfTold}
 use Rattle.ptu_grandmaster.specs.declared.driving.GmEvent.{GmEvent}
 use Rattle.ptu_config.specs.{declared.settings.GmSettings.{GmSettings}, Rounds.{all_rounds}}
-use Rattle.ptu_rounds.specs.{Handed.{FailuresAre, WereHanded}, Ports.{HaveNotRisen, WereSent, senders_of}}
-use Rattle.ptu_rounds.specs.Taken.{Gave, HappenedAt, HaveTaken, Round, event_of, general_of}
+use Rattle.ptu_outside.specs.{Handed.{FailuresAre, WereHanded}, Ports.{HaveNotRisen, WereSent, senders_of}}
+use Rattle.ptu_outside.specs.Taken.{Gave, HappenedAt, HaveTaken, Round, event_of, general_of}
 use Rattle.ptu_lanes.specs.{Sending.{GoesOn, WasSent}, Served.{ServesByLanes, faults_of}}
 use Rattle.ptu_daemon.specs.{Events.{Given, Takes, config_of, happenings_of}, Lawful.{IsLawful}}
 use Rattle.ptu_daemon.specs.Served.{Said, numbers_in, opened_as, served_by, served_said}

@@ -6,9 +6,9 @@ use Rattle.ptu_outside.specs.{declared.port.Port.{Ghosts as Ports}, Departure.{D
 use Rattle.ptu_outside.specs.{Faults.{HasRisen}, HandsOver.{SentOf}}
 use Rattle.ptu_lanes.specs.Served.{ExchangedAll, TablesSentLawfully, faults_of, replies_around, seen_at}
 use Rattle.ptu_config.specs.declared.settings.GmSettings.{GmSettings}
-use Rattle.ptu_rounds.specs.Ports.{HaveNotRisen}
-use Rattle.ptu_twostep.specs.{declared.two_host.Flags.{Flags}, Hosts.{clear, flagged_by, over, two_steps}}
-use Rattle.ptu_twostep.specs.{Pairs.{pairs}, Telling.{told_by}}
+use Rattle.ptu_outside.specs.Ports.{HaveNotRisen}
+use Rattle.ptu_daemon.specs.{declared.two_host.Flags.{Flags}, Hosts.{clear, flagged_by, over, two_steps}}
+use Rattle.ptu_daemon.specs.{Pairs.{pairs}, Telling.{told_by}}
 use Rattle.ptu_daemon.specs.{Events.{Given, config_of}, Served.{Said, served_by}, Serving.{HasServed, IsGiven}}
 
 -- the port below tells a list that is whole: each Sync in two steps of it is followed by its Follow_Up

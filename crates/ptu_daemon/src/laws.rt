@@ -10,7 +10,7 @@ ghost use Rattle.ptu_config.specs.{declared.settings.GmSettings.{GmSettings}, Li
 ghost use Rattle.ptu_lanes.specs.Rounds.{Exchange, replies};
 ghost use Rattle.ptu_daemon.specs.Lawful.{IsLawful};
 ghost use Rattle.ptu_daemon.specs.Sends.{Standing, sends_by};
-ghost use Rattle.ptu_twostep.specs.{Pairs.{step_at}, Telling.{is_half}};
+ghost use Rattle.ptu_daemon.specs.{Pairs.{step_at}, Telling.{is_half}};
 
 /// What a grandmaster of settings in their ranges is made to send is lawful, whatever events come:
 /// held never above what is in force; each REQUEST within the profile granted exactly where it fits

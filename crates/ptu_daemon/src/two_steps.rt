@@ -6,8 +6,8 @@ ghost use Rattle.ptu_daemon.specs.{Answers.{HasAnswered}, ServingInTwo.{HasServe
 use crate::serving::serve;
 use ptu_config::GmSettings;
 use ptu_outside::{Host, Sink};
-use ptu_rounds::DaemonFault;
-use ptu_twostep::TwoHost;
+use ptu_outside::DaemonFault;
+use crate::TwoHost;
 use std::alloc::Global;
 use std::sync::Wait;
 use std::thread::Threads;

@@ -1,9 +1,9 @@
 -- What a datagram asks of a grandmaster, or the first reason why it is ignored (IEEE 1588-2019 clauses 13.12 and 16.1; the
 -- order of the reasons is the project's own choice).
 use Rattle.std.specs.Prelude.{ℕ, ◌-◌, ◌^◌, ◌<◌, ◌≤◌, Bool, ◌&&◌, ◌||◌, ◌==◌, if◌then◌else◌, List, All, length, filter_map, Option, Some, None, Result, Ok, Err}
-use Rattle.ptu_header.specs.declared.header.{Header.{Header}, PortIdentity.{PortIdentity}}
-use Rattle.ptu_tlvs.specs.declared.tlv.Tlv.{Tlv}
-use Rattle.ptu_tlvs.specs.declared.tlv.Tlv.TheVariants as tlv
+use Rattle.ptu_messages.specs.declared.header.{Header.{Header}, PortIdentity.{PortIdentity}}
+use Rattle.ptu_messages.specs.declared.tlv.Tlv.{Tlv}
+use Rattle.ptu_messages.specs.declared.tlv.Tlv.TheVariants as tlv
 use Rattle.ptu_messages.specs.declared.message.Body.{Body}
 use Rattle.ptu_messages.specs.declared.message.Body.TheVariants as body
 use Rattle.ptu_messages.specs.declared.message.Message.{Message}

@@ -2,8 +2,8 @@
 -- 1588-2019 clause 16.1; the sequenceIds are the project's own choice).
 use Rattle.std.specs.Prelude.{ℕ, ◌+◌, ◌%◌, true, false, List, [], ◌∷◌, pos}
 use Rattle.ptu_units.specs.{declared.kind.Kind.{Kind}, Kind.{code_of}}
-use Rattle.ptu_header.specs.declared.header.{Header.{Header}, PortIdentity.{PortIdentity}}
-use Rattle.ptu_tlvs.specs.declared.tlv.{Ask.{Ask}, Tlv.{Tlv}, Tlv.TheVariants.{Grant, Cancel}}
+use Rattle.ptu_messages.specs.declared.header.{Header.{Header}, PortIdentity.{PortIdentity}}
+use Rattle.ptu_messages.specs.declared.tlv.{Ask.{Ask}, Tlv.{Tlv}, Tlv.TheVariants.{Grant, Cancel}}
 use Rattle.ptu_messages.specs.{declared.message.Message.{Message}, Sent.{octets_sent, signaling}}
 use Rattle.ptu_outside.specs.{declared.channel.Channel.TheVariants.{General}, Departure.{Departure}}
 use Rattle.ptu_history.specs.declared.client.Client.{Client}

@@ -1,7 +1,7 @@
 //! What a grandmaster takes out of a datagram: a Delay_Req, or the items of a Signaling.
 
 use crate::item::Items;
-use ptu_header::Header;
+use ptu_messages::Header;
 
 /// What a grandmaster hears in a datagram.
 #[derive(Drop)]

@@ -1,6 +1,6 @@
 //! The TLVs of a Signaling that a grandmaster decides: REQUEST and CANCEL.
 
-use ptu_tlvs::Ask;
+use ptu_messages::Ask;
 use ptu_units::Listed;
 
 /// What a Signaling asks of a grandmaster by one of its TLVs (IEEE 1588-2019 clause 16.1.4).

@@ -1,16 +1,16 @@
 //! The Signaling messages of a grandmaster (IEEE 1588-2019 clauses 13.12 and 16.1).
 
 ghost use Rattle.std.specs.Prelude.{◌≡◌, ◌≤◌, [], ◌∷◌, length, map, take, drop, All};
-ghost use Rattle.ptu_tlvs.specs.Sent.{IsSendable};
+ghost use Rattle.ptu_messages.specs.TlvsSent.{IsSendable};
 ghost use Rattle.ptu_messages.specs.Sent.{AlwaysSpells, octets_sent};
 ghost use Rattle.ptu_units.specs.Kind.{code_of};
 ghost use Rattle.ptu_gm_messages.specs.Replies.{identity_of, signaling_of};
 
-use ptu_header::PortIdentity;
+use ptu_messages::PortIdentity;
 use ptu_history::Client;
 use ptu_messages::{ToTlv, write_signaling_of};
 use ptu_profile::GmConfig;
-use ptu_tlvs::Tlv;
+use ptu_messages::Tlv;
 use ptu_units::Kind;
 use ptu_units::message_types::SIGNALING;
 use ptu_units::sizes::LONGEST_SIGNALING;

@@ -2,7 +2,7 @@
 
 use crate::item::{Item, Items};
 use ptu_messages::{Body, Message};
-use ptu_tlvs::Tlv;
+use ptu_messages::Tlv;
 use std::alloc::Global;
 
 /// Room for the lists of one Signaling, which is kept for those of the next. A clause says nothing

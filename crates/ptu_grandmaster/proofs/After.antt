@@ -11,7 +11,7 @@ use Rattle.ptu_history.specs.Turns.{due_grants, sent_record}
 use Rattle.ptu_history.specs.Verdict as verdicts
 use Rattle.ptu_history.specs.Verdict.{Config, verdict}
 use Rattle.ptu_history.proofs.Counts.{counts-asked, counts-empty, counts-ended, counts-granted, counts-nothing, counts-sent, counts-shed, counts-short}
-use Rattle.ptu_tlvs.specs.declared.tlv.Ask.{Ask}
+use Rattle.ptu_messages.specs.declared.tlv.Ask.{Ask}
 use Rattle.ptu_shard.specs.Table.{StandsFor as TableStandsFor}
 use Rattle.ptu_profile.specs.declared.grandmaster.GmConfig.{GmConfig}
 use Rattle.ptu_admit.specs.declared.verdict.Verdict.{Verdict}

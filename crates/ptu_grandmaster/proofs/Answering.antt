@@ -3,7 +3,7 @@ use Rattle.std.proofs.Common.{◌≡◌, List, [], ◌∷◌, map, refl, ap}
 use Rattle.std.specs.List.{All}
 use Rattle.std.proofs.lemmas.List.Elements.{All-cons, All-head, All-nil, All-tail}
 use Rattle.ptu_admit.specs.declared.verdict.Verdict.TheVariants as given
-use Rattle.ptu_tlvs.specs.{declared.tlv.Tlv.{Tlv}, Sent.{IsSendable}}
+use Rattle.ptu_messages.specs.{declared.tlv.Tlv.{Tlv}, TlvsSent.{IsSendable}}
 use Rattle.ptu_gm_messages.specs.{Deciding.{answer_to}, Items.{HasCode}}
 use Rattle.ptu_grandmaster.specs.declared.outcome.Outcome.{Outcome}
 use Rattle.ptu_grandmaster.specs.declared.outcome.Outcome.TheVariants as outcome

@@ -8,7 +8,7 @@ use Rattle.ptu_history.specs.Events as events
 use Rattle.ptu_history.specs.{History.{Record}, Live.{live}, Moments.{book_moment}}
 use Rattle.ptu_history.specs.{Step.{delay_answer, step}, Turns.{due_grants, message_of}}
 use Rattle.ptu_history.specs.Verdict.{Config, verdict}
-use Rattle.ptu_tlvs.specs.declared.tlv.Ask.{Ask}
+use Rattle.ptu_messages.specs.declared.tlv.Ask.{Ask}
 use Rattle.ptu_profile.specs.declared.grandmaster.GmConfig.{GmConfig}
 use Rattle.ptu_shard.specs.declared.{answered.Answered.{Answered}, lease.Row.{Row}}
 use Rattle.ptu_shard.specs.{Answered.{met_by}, Row.{share_of}, Table.{Kept, StandsAt}}

@@ -1,7 +1,7 @@
 -- What a decision does to a grandmaster.
 use Rattle.std.specs.Prelude.{◌≡◌, ℕ, ◌+◌, ◌≤◌, List, ◌++◌}
 use Rattle.ptu_units.specs.declared.kind.Kind.{Kind}
-use Rattle.ptu_tlvs.specs.declared.tlv.Ask.{Ask}
+use Rattle.ptu_messages.specs.declared.tlv.Ask.{Ask}
 use Rattle.ptu_history.specs.{declared.client.Client.{Client}, Client.{table_of}}
 use Rattle.ptu_history.specs.Core.{history_after}
 use Rattle.ptu_history.specs.Events as events

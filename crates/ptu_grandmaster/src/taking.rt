@@ -14,7 +14,7 @@ use crate::gm::Gm;
 use crate::outcome::{Outcomes, Taken};
 use crate::replying::send_reply;
 use ptu_gm_messages::{Heard, Item, hear_in};
-use ptu_header::Header;
+use ptu_messages::Header;
 use ptu_history::Client;
 use ptu_outside::{Port, Reply};
 use ptu_units::{Moment, OutOfMemory};

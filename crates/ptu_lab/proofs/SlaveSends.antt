@@ -5,11 +5,11 @@ use Rattle.std.proofs.lemmas.List.Sums.{count_by-le-length, length-filter, sum_b
 use Rattle.std.specs.List.{cons_option, filter, filter_map, flat_map, list_any}
 use Rattle.std.specs.Prelude.{Result, is_some}
 use Rattle.ptu_units.specs.{declared.kind.Kind.{Kind}, Kind.{kinds}}
-use Rattle.ptu_header.specs.declared.header.{Header.{Header}, PortIdentity.{PortIdentity}}
-use Rattle.ptu_header.specs.Sent.{sent_header, sent_identity}
-use Rattle.ptu_tlvs.specs.declared.tlv.Tlv.{Tlv}
-use Rattle.ptu_tlvs.specs.declared.tlv.Tlv.TheVariants as tlv
-use Rattle.ptu_tlvs.specs.Sent.{sent_tlv}
+use Rattle.ptu_messages.specs.declared.header.{Header.{Header}, PortIdentity.{PortIdentity}}
+use Rattle.ptu_messages.specs.HeaderSent.{sent_header, sent_identity}
+use Rattle.ptu_messages.specs.declared.tlv.Tlv.{Tlv}
+use Rattle.ptu_messages.specs.declared.tlv.Tlv.TheVariants as tlv
+use Rattle.ptu_messages.specs.TlvsSent.{sent_tlv}
 use Rattle.ptu_messages.specs.declared.{fault.MessageFault.{MessageFault}, message.Body.{Body}}
 use Rattle.ptu_messages.specs.declared.message.Body.TheVariants as body
 use Rattle.ptu_messages.specs.declared.message.Message.{Message}

@@ -6,7 +6,7 @@ use Rattle.ptu_lines.specs.Script.{script_lines}
 use Rattle.ptu_world.specs.{World.{Stock}, Facts.{world_of}}
 use Rattle.ptu_world.specs.Report.{granted_count, report_lines, short_count}
 use Rattle.ptu_lab.specs.declared.done.Done.{Done}
-use Rattle.ptu_load.specs.Generated.{generated}
+use Rattle.ptu_show.specs.Generated.{generated}
 
 -- a stock without judges
 abbrev pub no_stock : Stock

@@ -15,7 +15,7 @@ mod stock;
 pub use done::Done;
 pub use loading::{load, sample_summaries};
 pub use ptu_judges::Stock;
-pub use ptu_load::generate;
+pub use ptu_show::generate;
 pub use ptu_script::Cause;
 pub use ptu_show::{LabFault, show};
 pub use replaying::replay;

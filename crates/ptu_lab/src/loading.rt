@@ -5,14 +5,14 @@ ghost use Rattle.std.specs.{Io.KnownBytes.{append_known}, String.{string_bytes}}
 ghost use Rattle.serde_json.specs.View.{view};
 ghost use Rattle.ptu_outside.specs.Handing.{HasPut, HasPutPart};
 ghost use Rattle.ptu_report.specs.Runs.{CountsWrite};
-ghost use Rattle.ptu_load.specs.Generated.{IsWriteOrMemory, generated};
+ghost use Rattle.ptu_show.specs.Generated.{IsWriteOrMemory, generated};
 ghost use Rattle.ptu_lab.specs.SummarySamples.{FiveClients, OneClient};
 ghost use Rattle.ptu_lab.specs.Load.{numbers_of, object_text, summary, summary_data, summary_text};
 
 use crate::done::Done;
 use crate::replaying::replay;
 use ptu_judges::Stock;
-use ptu_load::{generate, put};
+use ptu_show::{generate, put};
 use ptu_outside::{Failed, MemSink, Sink, Source};
 use ptu_report::RunFault;
 use ptu_show::LabFault;

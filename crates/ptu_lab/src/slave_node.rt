@@ -25,7 +25,7 @@ ghost use Rattle.ptu_lab.specs.Steps.{HasActedLeaving, stock_of};
 
 use crate::slave_statements::{say_heard, was_ignored};
 use crate::stock::{Reserve, take_judge};
-use ptu_header::PortIdentity;
+use ptu_messages::PortIdentity;
 use ptu_judges::{Judge, Rule};
 use ptu_nodes::Journal;
 use ptu_outside::MemPort;

@@ -16,7 +16,7 @@ use Rattle.ptu_shared.proofs.Failing.{failed-append, failed_hands, failed_none}
 use Rattle.ptu_gm_messages.specs.Replies.{cancels_to}
 use Rattle.ptu_config.specs.{declared.settings.GmSettings.{GmSettings}, Rounds.{all_rounds}}
 use Rattle.ptu_lanes.specs.Answers.{asks_among, grants_among}
-use Rattle.ptu_rounds.specs.{Handed.{WasHanded}, Ports.{HaveRisenBy, HaveRisenJust}}
+use Rattle.ptu_outside.specs.{Handed.{WasHanded}, Ports.{HaveRisenBy, HaveRisenJust}}
 use Rattle.ptu_lanes.specs.declared.{lanes.Lanes.{Lanes}, serving.Totals.{Totals}}
 use Rattle.ptu_lanes.specs.Crew.{LanesServed, ServedSignaling}
 use Rattle.ptu_lanes.specs.Rounds.{Exchange, Exchanged, IsAnswered, answers_of, asks_in, datagrams, grants_in, items_of, replies}

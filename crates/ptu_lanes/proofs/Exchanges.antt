@@ -12,8 +12,8 @@ use Rattle.ptu_outside.specs.HandsOver.{HandsOver, SentOf}
 use Rattle.ptu_outside.proofs.HandsOver.{goes_on_both, hands_none, just_both, none_failed, not_fallen_both, not_fallen_none, rises_first, rises_second, risen_both, sent_both, sent_none, told_both, told_none}
 use Rattle.ptu_outside.specs.Telling.{IfTold, IsFirstTold, append_told, rest_told}
 use Rattle.ptu_outside.proofs.Telling.{IfTold-refl}
-use Rattle.ptu_header.specs.declared.header.Header.{Header}
-use Rattle.ptu_tlvs.specs.declared.tlv.Tlv.{Tlv}
+use Rattle.ptu_messages.specs.declared.header.Header.{Header}
+use Rattle.ptu_messages.specs.declared.tlv.Tlv.{Tlv}
 use Rattle.ptu_profile.specs.declared.grandmaster.GmConfig.{GmConfig}
 use Rattle.ptu_shared.specs.Seats.{SeatCounts}
 use Rattle.ptu_shared.proofs.Failing.{failed-append, failed_none}
@@ -22,7 +22,7 @@ use Rattle.ptu_gm_messages.specs.declared.heard.Heard.TheVariants as heard
 use Rattle.ptu_gm_messages.specs.declared.{reason.GmReason.{GmReason}, item.Item.{Item}}
 use Rattle.ptu_gm_messages.specs.{Deciding.{client_of}, Items.{heard_in, items_in}}
 use Rattle.ptu_grandmaster.specs.{declared.outcome.Outcome.{Outcome}, Outcomes.{answers_seen, item_seen}}
-use Rattle.ptu_rounds.specs.Handed.{WasHanded}
+use Rattle.ptu_outside.specs.Handed.{WasHanded}
 use Rattle.ptu_lanes.specs.Answers.{FitEach, HasAnswered, WasDecided, asks_among, grants_among}
 use Rattle.ptu_lanes.specs.Rounds.{AreDecided, BrokeOff, Exchange, Exchanged, HasReplied, HasServed, IsAnswered, IsRound, IsUnanswered, answers_of, asks_in, datagrams, found_items, items_of, replies, reply_if_any, reply_in, reply_with}
 use Rattle.ptu_lanes.proofs.{Handing.{handed-append, handed_none}, Items.{answered_none, asks-le, heard_items, items_heard}}

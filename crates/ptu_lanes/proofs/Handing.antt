@@ -3,7 +3,7 @@ use Rattle.std.proofs.Common.{◌≡◌, ℕ, ◌+◌, ◌++◌, List, []}
 use Rattle.ptu_outside.specs.{declared.port.Port.{Ghosts as Ports}, Departure.{Departure}}
 use Rattle.ptu_outside.specs.{Faults.{HasNotFallen, HasRisen}, HandsOver.{HandsOver}}
 use Rattle.ptu_outside.proofs.HandsOver.{goes_on_both, none_failed, rises_first, rises_second, sent_both, sent_none, told_both, told_none}
-use Rattle.ptu_rounds.specs.Handed.{WasHanded}
+use Rattle.ptu_outside.specs.Handed.{WasHanded}
 
 module _ {P : Type 0} (ports : Ports P) where
   pub handed_none : (port : P) → WasHanded ports port port [] 0

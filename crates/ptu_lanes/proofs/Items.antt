@@ -2,9 +2,9 @@
 use Rattle.std.proofs.Common.{◌≡◌, ◌∙◌, ℕ, ◌+◌, ◌^◌, ◌≤◌, ◌<◌, ◌++◌, List, [], ◌∷◌, length, length-take, map, take, refl, sym, ap, subst, arith, Result, Ok, Err, true, false}
 use Rattle.std.specs.{Prelude.{◌==◌, if◌then◌else◌, Bool}, List.{All}}
 use Rattle.std.proofs.lemmas.{List.{map-append}, List.Elements.{All-append, All-cons, All-nil}, List.Sums.{sum_by-append, sum_by-cons}}
-use Rattle.ptu_header.specs.declared.header.Header.{Header}
+use Rattle.ptu_messages.specs.declared.header.Header.{Header}
 use Rattle.ptu_history.specs.{declared.client.Client.{Client}, Verdict.{profile}}
-use Rattle.ptu_tlvs.specs.declared.tlv.Tlv.{Tlv}
+use Rattle.ptu_messages.specs.declared.tlv.Tlv.{Tlv}
 use Rattle.ptu_messages.specs.declared.message.Body.{Body}
 use Rattle.ptu_messages.specs.declared.message.Body.TheVariants as body
 use Rattle.ptu_messages.specs.declared.message.Message.{Message}

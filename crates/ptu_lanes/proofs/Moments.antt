@@ -4,7 +4,7 @@ use Rattle.std.specs.Prelude.{option_map, ◌%◌, ◌==◌, Bool, if◌then◌e
 use Rattle.std.proofs.Math.Nat.{mul-add}
 use Rattle.ptu_outside.specs.{Clocks.{after_first}, Telling.{IfTold}}
 use Rattle.ptu_outside.specs.declared.clock.Clock.{Ghosts as Clocks}
-use Rattle.ptu_rounds.specs.Rounds.{moments_after}
+use Rattle.ptu_outside.specs.Rounds.{moments_after}
 use Rattle.ptu_lanes.specs.Waiting.{PassedBy, TurnedOwn, own_below, own_tables}
 
 -- moments after two numbers of readings are those after their sum

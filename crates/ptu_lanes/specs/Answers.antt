@@ -4,8 +4,8 @@ use Rattle.std.specs.Prelude.{◌≡◌, ◌⊎◌, ℕ, ◌+◌, ◌≤◌, min
 use Rattle.std.specs.List.{sum_by}
 use Rattle.ptu_units.specs.{declared.kind.Kind.{Kind}, Kind.{kind_of}}
 use Rattle.ptu_history.specs.{declared.client.Client.{Client}, Verdict.{profile}}
-use Rattle.ptu_tlvs.specs.declared.tlv.{Ask.{Ask}, Tlv.{Tlv}}
-use Rattle.ptu_tlvs.specs.declared.tlv.Tlv.TheVariants as tlv
+use Rattle.ptu_messages.specs.declared.tlv.{Ask.{Ask}, Tlv.{Tlv}}
+use Rattle.ptu_messages.specs.declared.tlv.Tlv.TheVariants as tlv
 use Rattle.ptu_profile.specs.declared.grandmaster.GmConfig.{GmConfig}
 use Rattle.ptu_admit.specs.declared.ending.Cancelled.{Cancelled}
 use Rattle.ptu_shared.specs.{Answers.{AnswersAsk}, Seats.{SeatCounts}}

@@ -11,7 +11,7 @@ use Rattle.ptu_profile.specs.declared.grandmaster.GmConfig.{GmConfig}
 use Rattle.ptu_shared.specs.{Histories.{SendsLawfully}, Opening.{HaveFailed, Seen, seen_of}}
 use Rattle.ptu_gm_messages.specs.Replies.{cancels_to}
 use Rattle.ptu_config.specs.{declared.settings.GmSettings.{GmSettings}, Rounds.{all_rounds}}
-use Rattle.ptu_rounds.specs.{Handed.{WasHanded}, Ports.{HaveRisenBy, HaveRisenJust, WereSent, ports_of, senders_of}}
+use Rattle.ptu_outside.specs.{Handed.{WasHanded}, Ports.{HaveRisenBy, HaveRisenJust, WereSent, ports_of, senders_of}}
 use Rattle.ptu_lanes.specs.Rounds.{Exchange, IsAnswered, asks_in, datagrams, grants_in, replies}
 use Rattle.ptu_lanes.specs.{Sending.{GoesOn, WasSent}, Waiting.{GaveFirst, MissedFew, PassedBy, Took, TurnedOwn}}
 use Rattle.ptu_lanes.specs.Changing.{change_moments, change_of, early_rounds, greatest_capacity, last_capacity}

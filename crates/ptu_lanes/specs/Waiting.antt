@@ -3,7 +3,7 @@ use Rattle.std.specs.Prelude.{◌≡◌, ℕ, suc, zero, ◌+◌, ◌*◌, ◌%�
 use Rattle.ptu_outside.specs.declared.{arrival.Arrival.{Arrival}, clock.Clock.{Ghosts as Clocks}}
 use Rattle.ptu_outside.specs.{declared.port.Port.{Ghosts as Ports}, Telling.{IfTold}}
 use Rattle.ptu_shared.specs.Opening.{HaveFailed}
-use Rattle.ptu_rounds.specs.Rounds.{moments_after}
+use Rattle.ptu_outside.specs.Rounds.{moments_after}
 
 -- between what waited at a port and what is left, where it still tells that, it gave the first datagrams: so many, or all where
 -- there are fewer

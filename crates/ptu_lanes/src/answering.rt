@@ -16,7 +16,7 @@ use crate::signaling::{Control, IDLE};
 use ptu_admit::Cancelled;
 use ptu_gm_messages::{Heard, Item, hear};
 use ptu_grandmaster::{Outcome, Outcomes, reply_of};
-use ptu_header::Header;
+use ptu_messages::Header;
 use ptu_history::Client;
 use ptu_outside::{Channel, Port, Sends, hand};
 use ptu_profile::GmConfig;

@@ -3,7 +3,7 @@
 ghost use Rattle.std.specs.Prelude.{◌≡◌};
 ghost use Rattle.ptu_gm_messages.specs.Deciding.{client_of};
 
-use ptu_header::Header;
+use ptu_messages::Header;
 use ptu_history::Client;
 
 /// The client of a message with this header, which came from this IPv4 address.

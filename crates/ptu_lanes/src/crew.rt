@@ -19,7 +19,7 @@ use crate::service::Service;
 use ptu_config::GmSettings;
 use ptu_outside::{Clock, Opened, Port};
 use ptu_profile::GmConfig;
-use ptu_rounds::Meeting;
+use ptu_outside::Meeting;
 use ptu_shared::{Rates, Seat, Shared};
 use ptu_units::OutOfMemory;
 use std::alloc::Global;

@@ -10,7 +10,7 @@ use crate::service::Service;
 use crate::signaling::control_round;
 use crate::turns::turn_round;
 use ptu_outside::{Clock, Port};
-use ptu_rounds::{Meeting, last_moment};
+use ptu_outside::{Meeting, last_moment};
 use ptu_shared::{Rates, Seat};
 use ptu_units::OutOfMemory;
 use std::sync::Wait;

@@ -9,3 +9,4 @@ pub mod Numbers
 pub mod Ranges
 pub mod Separators
 mod WordCutting
+pub mod Encoded

@@ -3,3 +3,5 @@ pub mod Script
 pub mod Words
 pub mod Reading
 pub mod Cut
+pub mod Draft
+pub mod Line

@@ -2,19 +2,28 @@
 #![tactic(auto)]
 
 mod cause;
+mod digits;
+mod draft;
 mod fault;
 mod forms;
 pub mod laws;
 mod lent_octets;
+mod line;
 mod line_buffer;
 mod line_reader;
 mod line_words;
 mod lines;
+mod part;
+mod text;
 
 pub use cause::LineCause;
+pub use draft::Draft;
 pub use fault::LinesFault;
 pub use forms::{clock, ip, log, number, octets};
 pub use lent_octets::LentOctets;
+pub use line::LineText;
 pub use line_reader::LineReader;
 pub use line_words::{WordList, word};
 pub use lines::Lines;
+pub use part::LinePart;
+pub use text::Text;

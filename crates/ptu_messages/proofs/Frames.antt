@@ -2,11 +2,11 @@
 use Rattle.std.proofs.Common.{◌≡◌, ℕ, ◌+◌, ◌*◌, ◌<◌, ◌≤◌, List, [], ◌∷◌, ◌++◌, length, get_or, map, take, drop, refl, sym, ap, subst, ◌∙◌, arith, append_assoc, length-append}
 use Rattle.std.specs.List.{All, flat_map}
 use Rattle.std.proofs.lemmas.List.{append-nil, take_at, drop_at, get_or-map, length-map, length-take-le, drop-drop, length-drop, take-append-drop, take_all, take_more}
-use Rattle.ptu_header.specs.declared.header.{Header.{Header}, PortIdentity.{PortIdentity}}
-use Rattle.ptu_header.specs.Header.{AlwaysSpellsHeader, HasIdentityWidths}
-use Rattle.ptu_header.specs.Sent.{sent_header, sent_identity}
-use Rattle.ptu_tlvs.specs.{declared.tlv.Tlv.{Tlv}, Tlv.{AlwaysBeginsWithTlv}}
-use Rattle.ptu_tlvs.specs.Sent.{IsSendable, sent_tlv}
+use Rattle.ptu_messages.specs.declared.header.{Header.{Header}, PortIdentity.{PortIdentity}}
+use Rattle.ptu_messages.specs.Header.{AlwaysSpellsHeader, HasIdentityWidths}
+use Rattle.ptu_messages.specs.HeaderSent.{sent_header, sent_identity}
+use Rattle.ptu_messages.specs.{declared.tlv.Tlv.{Tlv}, Tlv.{AlwaysBeginsWithTlv}}
+use Rattle.ptu_messages.specs.TlvsSent.{IsSendable, sent_tlv}
 use Rattle.ptu_messages.specs.{Tlvs.{AreSpelled}, declared.message.Message.{Message}}
 use Rattle.ptu_messages.specs.Sent.{AlwaysSpells, sent_body, sent_message, signaling}
 use Rattle.ptu_messages.proofs.Sending.{AreSpelled-push, is_sent, signaling_spells, spelled_alone}

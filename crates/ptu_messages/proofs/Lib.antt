@@ -4,3 +4,7 @@ pub mod Readings
 pub mod Outcomes
 pub mod Sending
 pub mod Frames
+pub mod HeaderSending
+pub mod HeaderReadings
+pub mod TlvsSending
+pub mod TlvsReadings

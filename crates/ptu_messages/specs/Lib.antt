@@ -5,3 +5,13 @@ pub mod Reading
 pub mod Outcome
 pub mod Sent
 pub mod Samples
+pub mod Header
+pub mod HeaderFault
+pub mod HeaderReading
+pub mod HeaderSent
+pub mod HeaderSamples
+pub mod Tlv
+pub mod TlvFault
+pub mod TlvsReading
+pub mod TlvsSent
+pub mod TlvsSamples

@@ -2,9 +2,9 @@
 use Rattle.std.specs.Prelude.{◌≡◌, ◌≢◌, ℕ, ◌+◌, ◌^◌, ◌<◌, ◌≤◌, ◌==◌, ◌||◌, if◌then◌else◌, List, All, slice_index, slice_range}
 use Rattle.std.specs.{Int.{w16}, Int.RustNames.{FitsSigned}}
 use Rattle.ptu_units.specs.declared.stamp.Stamp.{Stamp}
-use Rattle.ptu_octets.specs.Number.{number_at, signed_at}
-use Rattle.ptu_header.specs.Header.{SpellsHeader, HasIdentityWidths, identity_at}
-use Rattle.ptu_tlvs.specs.Tlv.{HasWidths}
+use Rattle.ptu_units.specs.Number.{number_at, signed_at}
+use Rattle.ptu_messages.specs.Header.{SpellsHeader, HasIdentityWidths, identity_at}
+use Rattle.ptu_messages.specs.Tlv.{HasWidths}
 use Rattle.ptu_messages.specs.declared.message.{AnnounceBody.{AnnounceBody}, Body.{Body}}
 use Rattle.ptu_messages.specs.declared.message.Body.TheVariants.{Sync, DelayReq, FollowUp, DelayResp, Announce, Signaling, Ignored}
 use Rattle.ptu_messages.specs.{declared.message.Message.{Message}, Tlvs.{SpellsTlvs}}

@@ -1,10 +1,10 @@
 -- What is wrong with octets that spell no message.
 use Rattle.std.specs.Prelude.{◌≡◌, ℕ, ◌<◌, ◌≤◌, List, ◌++◌, length, slice_range, codes}
 use Rattle.std.specs.Fmt.{decimal}
-use Rattle.ptu_header.specs.{declared.header.Header.{Header}, Header.{SpellsHeader}}
-use Rattle.ptu_header.specs.HeaderFault as headers
-use Rattle.ptu_tlvs.specs.declared.tlv.Tlv.{Tlv}
-use Rattle.ptu_tlvs.specs.TlvFault as tlvs
+use Rattle.ptu_messages.specs.{declared.header.Header.{Header}, Header.{SpellsHeader}}
+use Rattle.ptu_messages.specs.HeaderFault as headers
+use Rattle.ptu_messages.specs.declared.tlv.Tlv.{Tlv}
+use Rattle.ptu_messages.specs.TlvFault as tlvs
 use Rattle.ptu_messages.specs.declared.fault.MessageFault.{MessageFault}
 use Rattle.ptu_messages.specs.declared.fault.MessageFault.TheVariants as faults
 use Rattle.ptu_messages.specs.{Message.{least_length}, Tlvs.{AreSpelled}}

@@ -1,9 +1,9 @@
 -- Reading a message: its value, or the first fault.
 use Rattle.std.specs.Prelude.{ℕ, zero, suc, ◌+◌, ◌==◌, if◌then◌else◌, List, [], ◌∷◌, drop, nat_lt, slice_range, Result, Ok, Err}
-use Rattle.ptu_header.specs.declared.{header.Header.{Header}, fault.HeaderFault.{HeaderFault}}
-use Rattle.ptu_header.specs.{Header.{identity_at}, Reading.{header_in}}
-use Rattle.ptu_tlvs.specs.declared.{tlv.Tlv.{Tlv}, fault.TlvFault.{TlvFault}}
-use Rattle.ptu_tlvs.specs.Reading.{tlv_in}
+use Rattle.ptu_messages.specs.declared.{header.Header.{Header}, header_fault.HeaderFault.{HeaderFault}}
+use Rattle.ptu_messages.specs.{Header.{identity_at}, HeaderReading.{header_in}}
+use Rattle.ptu_messages.specs.declared.{tlv.Tlv.{Tlv}, tlvs_fault.TlvFault.{TlvFault}}
+use Rattle.ptu_messages.specs.TlvsReading.{tlv_in}
 use Rattle.ptu_messages.specs.declared.message.Body.{Body}
 use Rattle.ptu_messages.specs.declared.message.Body.TheVariants.{Sync, DelayReq, FollowUp, DelayResp, Announce, Signaling, Ignored}
 use Rattle.ptu_messages.specs.declared.message.Message.{Message}

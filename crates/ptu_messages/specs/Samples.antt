@@ -1,10 +1,10 @@
 -- Datagrams that were made out by hand, field by field, and what the definitions say of them.
 use Rattle.std.specs.Prelude.{◌≡◌, ℕ, List, [], ◌∷◌, ◌++◌, take, slice_set, replicate, pos, Ok, Err}
 use Rattle.std.specs.List.{flat_map}
-use Rattle.ptu_header.specs.declared.header.{Header.{Header}, PortIdentity.{PortIdentity}}
-use Rattle.ptu_header.specs.declared.fault.HeaderFault.TheVariants as headers
-use Rattle.ptu_tlvs.specs.declared.tlv.{Tlv.{Tlv}, Tlv.TheVariants.{Request, Other}}
-use Rattle.ptu_tlvs.specs.declared.fault.TlvFault.TheVariants as tlvs
+use Rattle.ptu_messages.specs.declared.header.{Header.{Header}, PortIdentity.{PortIdentity}}
+use Rattle.ptu_messages.specs.declared.header_fault.HeaderFault.TheVariants as headers
+use Rattle.ptu_messages.specs.declared.tlv.{Tlv.{Tlv}, Tlv.TheVariants.{Request, Other}}
+use Rattle.ptu_messages.specs.declared.tlvs_fault.TlvFault.TheVariants as tlvs
 use Rattle.ptu_messages.specs.declared.message.Body.TheVariants.{DelayReq, DelayResp, Announce, Signaling, Ignored}
 use Rattle.ptu_messages.specs.declared.message.Message.{Message}
 use Rattle.ptu_messages.specs.declared.fault.MessageFault.TheVariants as faults

@@ -2,10 +2,10 @@
 use Rattle.std.specs.{Prelude.{ℕ, ◌+◌, ◌^◌, ◌<◌, List, [], ◌∷◌, ◌++◌, length}, List.{flat_map}}
 use Rattle.std.specs.Int.{w16}
 use Rattle.ptu_units.specs.declared.stamp.Stamp.{Stamp}
-use Rattle.ptu_octets.specs.Number.{octets_of, signed_octets}
-use Rattle.ptu_header.specs.declared.header.{Header.{Header}, PortIdentity.{PortIdentity}}
-use Rattle.ptu_header.specs.Sent.{sent_header, sent_identity}
-use Rattle.ptu_tlvs.specs.{declared.tlv.Tlv.{Tlv}, Sent.{sent_tlv}}
+use Rattle.ptu_units.specs.Number.{octets_of, signed_octets}
+use Rattle.ptu_messages.specs.declared.header.{Header.{Header}, PortIdentity.{PortIdentity}}
+use Rattle.ptu_messages.specs.HeaderSent.{sent_header, sent_identity}
+use Rattle.ptu_messages.specs.{declared.tlv.Tlv.{Tlv}, TlvsSent.{sent_tlv}}
 use Rattle.ptu_messages.specs.declared.message.{AnnounceBody.{AnnounceBody}, Body.{Body}}
 use Rattle.ptu_messages.specs.declared.message.Body.TheVariants.{Sync, DelayReq, FollowUp, DelayResp, Announce, Signaling, Ignored}
 use Rattle.ptu_messages.specs.declared.message.Message.{Message}

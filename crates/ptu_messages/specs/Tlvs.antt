@@ -1,6 +1,6 @@
 -- Lists of TLVs, and the octets that spell them (IEEE 1588-2019 clauses 13.12 and 14.1).
 use Rattle.std.specs.Prelude.{◌≡◌, ℕ, ◌≤◌, List, [], ◌∷◌, ◌++◌, length}
-use Rattle.ptu_tlvs.specs.{declared.tlv.Tlv.{Tlv}, Tlv.{SpellsTlv}}
+use Rattle.ptu_messages.specs.{declared.tlv.Tlv.{Tlv}, Tlv.{SpellsTlv}}
 
 -- the octets are spellings of the TLVs, one after the other
 abbrev pub AreSpelled : List ℕ → List Tlv → Type 0

@@ -6,7 +6,7 @@ ghost use Rattle.ptu_messages.specs.Sent.{sent_announce};
 
 use crate::message::AnnounceBody;
 use crate::stamps::{stamp, stamp_octets};
-use ptu_octets::{i16_at, u16_at, u64_at};
+use ptu_units::{i16_at, u16_at, u64_at};
 
 /// The body in octets 34 to 63 of an Announce.
 pub fn announce(octets: &[u8]) -> AnnounceBody

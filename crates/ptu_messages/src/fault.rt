@@ -3,8 +3,8 @@
 ghost use Rattle.std.specs.Prelude.{◌≡◌, Some};
 ghost use Rattle.ptu_messages.specs.MessageFault.{message_fault_text};
 
-use ptu_header::HeaderFault;
-use ptu_tlvs::TlvFault;
+use crate::HeaderFault;
+use crate::TlvFault;
 use std::error::Error;
 use std::fmt;
 

@@ -2,8 +2,8 @@
 //! 1588-2019 clauses 13.5 to 13.8).
 
 ghost use Rattle.std.specs.Prelude.{◌≡◌, ◌+◌, ◌<◌, ◌≤◌, ◌++◌, ◌^◌, length, take, drop};
-ghost use Rattle.ptu_header.specs.Header.{AlwaysSpellsHeader, HasIdentityWidths};
-ghost use Rattle.ptu_header.specs.Sent.{sent_header, sent_identity};
+ghost use Rattle.ptu_messages.specs.Header.{AlwaysSpellsHeader, HasIdentityWidths};
+ghost use Rattle.ptu_messages.specs.HeaderSent.{sent_header, sent_identity};
 ghost use Rattle.ptu_messages.specs.Message.{HasStampWidths};
 ghost use Rattle.ptu_messages.specs.Sent.{sent_message, sent_stamp, IsFixed, AlwaysSpells};
 
@@ -11,7 +11,7 @@ use crate::announcing::announce_octets;
 use crate::message::{Body, Message};
 use crate::putting::put;
 use crate::stamps::stamp_octets;
-use ptu_header::{Header, PortIdentity, write_header};
+use crate::{Header, PortIdentity, write_header};
 use ptu_units::Stamp;
 
 // Puts the header and the body at the front, and says how many octets they are.

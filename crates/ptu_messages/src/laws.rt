@@ -2,10 +2,10 @@
 //! function that does nothing.
 
 ghost use Rattle.std.specs.Prelude.{◌≡◌, ◌⊎◌, ◌↔◌, ◌≤◌, ℕ, List, All, length, Ok, Err};
-ghost use Rattle.ptu_header.specs.declared.header.Header.{Header};
-ghost use Rattle.ptu_header.specs.declared.header.PortIdentity.{PortIdentity};
-ghost use Rattle.ptu_header.specs.Header as headers;
-ghost use Rattle.ptu_tlvs.specs.{declared.tlv.Tlv.{Tlv}, Sent.{IsSendable}, Tlv.{HasWidths}};
+ghost use Rattle.ptu_messages.specs.declared.header.Header.{Header};
+ghost use Rattle.ptu_messages.specs.declared.header.PortIdentity.{PortIdentity};
+ghost use Rattle.ptu_messages.specs.Header as headers;
+ghost use Rattle.ptu_messages.specs.{declared.tlv.Tlv.{Tlv}, TlvsSent.{IsSendable}, Tlv.{HasWidths}};
 ghost use Rattle.ptu_messages.specs.declared.message.Message.{Message};
 ghost use Rattle.ptu_messages.specs.declared.fault.MessageFault.{MessageFault};
 ghost use Rattle.ptu_messages.specs.Message.{HasBodyWidths, SpellsMessage};

@@ -2,7 +2,7 @@
 //! 1588-2019 clause 13).
 
 use crate::tlv_list::TlvList;
-use ptu_header::{Header, PortIdentity};
+use crate::{Header, PortIdentity};
 use ptu_units::Stamp;
 
 /// A message: what is kept of its header, and its body (IEEE 1588-2019 clause 13).

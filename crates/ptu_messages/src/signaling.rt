@@ -2,14 +2,14 @@
 
 ghost use Rattle.std.specs.Prelude.{◌≡◌, ◌+◌, ◌*◌, ◌≤◌, ◌++◌, length, map, take, drop, All};
 ghost use Rattle.std.specs.List.{flat_map};
-ghost use Rattle.ptu_tlvs.specs.Sent.{IsSendable, sent_tlv};
+ghost use Rattle.ptu_messages.specs.TlvsSent.{IsSendable, sent_tlv};
 ghost use Rattle.ptu_messages.specs.Tlvs.{AreSpelled};
 ghost use Rattle.ptu_messages.specs.Sent.{sent_message, signaling, AlwaysSpells};
 
 use crate::putting::put;
 use crate::to_tlv::ToTlv;
-use ptu_header::{Header, PortIdentity, write_header};
-use ptu_tlvs::{Tlv, write_tlv};
+use crate::{Header, PortIdentity, write_header};
+use crate::{Tlv, write_tlv};
 use ptu_units::sizes::LONGEST_SIGNALING;
 
 // Puts the TLVs at octet 44 and behind, and says where they end.

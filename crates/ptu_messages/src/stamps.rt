@@ -3,7 +3,7 @@
 ghost use Rattle.std.specs.Prelude.{◌≡◌, ◌+◌, ◌≤◌, ◌<◌, ◌^◌, length};
 ghost use Rattle.ptu_messages.specs.{Message.{HasStampWidths, stamp_at}, Sent.{sent_stamp}};
 
-use ptu_octets::{u32_at, u48_at, u48_octets};
+use ptu_units::{u32_at, u48_at, u48_octets};
 use ptu_units::Stamp;
 
 /// The timestamp in the ten octets from a place on.

@@ -1,6 +1,6 @@
 //! The TLVs of a Signaling as a list.
 
-use ptu_tlvs::Tlv;
+use crate::Tlv;
 use ptu_units::Listed;
 
 /// The TLVs of a Signaling, in their order. A clause sees it as their list.

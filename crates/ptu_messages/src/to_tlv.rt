@@ -2,9 +2,9 @@
 //! list of TLVs in between.
 
 ghost use Rattle.std.specs.Prelude.{◌≡◌};
-ghost use Rattle.ptu_tlvs.specs.declared.tlv.Tlv as declared;
+ghost use Rattle.ptu_messages.specs.declared.tlv.Tlv as declared;
 
-use ptu_tlvs::Tlv;
+use crate::Tlv;
 
 /// A value that is sent as a TLV.
 pub trait ToTlv {

@@ -1,6 +1,6 @@
 -- How many items a Signaling has.
 use Rattle.std.proofs.Common.{◌≡◌, ℕ, ◌≤◌, List, Bool, true, false, ◌==◌, if◌then◌else◌, length, refl, arith, Result, Ok, Err}
-use Rattle.ptu_header.specs.declared.header.Header.{Header}
+use Rattle.ptu_messages.specs.declared.header.Header.{Header}
 use Rattle.ptu_messages.specs.declared.message.Body.{Body}
 use Rattle.ptu_messages.specs.declared.message.Body.TheVariants as body
 use Rattle.ptu_messages.specs.declared.message.Message.{Message}

@@ -5,11 +5,11 @@ use Rattle.ptu_units.specs.declared.kind.Kind.{Kind}
 use Rattle.ptu_units.specs.declared.kind.Kind.TheVariants as kinds
 use Rattle.ptu_units.specs.Kind.{code_of}
 use Rattle.ptu_outside.specs.Departure.{Departure}
-use Rattle.ptu_header.specs.declared.header.{Header.{Header}, PortIdentity.{PortIdentity}}
-use Rattle.ptu_header.specs.Sent.{sent_header, sent_identity}
-use Rattle.ptu_tlvs.specs.declared.tlv.Tlv.{Tlv}
-use Rattle.ptu_tlvs.specs.declared.tlv.Tlv.TheVariants.{Request, Grant, Cancel, Ack, Other}
-use Rattle.ptu_tlvs.specs.Sent.{sent_tlv}
+use Rattle.ptu_messages.specs.declared.header.{Header.{Header}, PortIdentity.{PortIdentity}}
+use Rattle.ptu_messages.specs.HeaderSent.{sent_header, sent_identity}
+use Rattle.ptu_messages.specs.declared.tlv.Tlv.{Tlv}
+use Rattle.ptu_messages.specs.declared.tlv.Tlv.TheVariants.{Request, Grant, Cancel, Ack, Other}
+use Rattle.ptu_messages.specs.TlvsSent.{sent_tlv}
 use Rattle.ptu_messages.specs.declared.message.Message.{Message as Timed}
 use Rattle.ptu_messages.specs.Sent.{octets_sent, sent_body}
 use Rattle.ptu_history.specs.{declared.client.Client.{Client}, Events.{Message}}

@@ -1,7 +1,7 @@
 -- Which grandmaster of a world a grandmaster with ports in memory stands for.
 use Rattle.std.specs.Prelude.{◌≡◌, []}
 use Rattle.ptu_outside.specs.MemoryPort.{MemoryPort}
-use Rattle.ptu_header.specs.declared.header.PortIdentity.{PortIdentity}
+use Rattle.ptu_messages.specs.declared.header.PortIdentity.{PortIdentity}
 use Rattle.ptu_profile.specs.declared.grandmaster.GmConfig.{GmConfig}
 use Rattle.ptu_script.specs.declared.command.GrandmasterSetup.{GrandmasterSetup}
 use Rattle.ptu_grandmaster.specs.Gm.{KeptGm}

@@ -14,7 +14,7 @@ use crate::grandmaster_ports::{hand_over_all, reserve, reserve_replies};
 use crate::grandmaster_statements::{say_shed, say_taken};
 use crate::journal::Journal;
 use ptu_grandmaster::{Gm, SIGNALING_PORT};
-use ptu_header::PortIdentity;
+use ptu_messages::PortIdentity;
 use ptu_outside::MemPort;
 use ptu_profile::GmConfig;
 use ptu_report_lines::Statement;

@@ -15,7 +15,7 @@ use ptu_admit::{Cancelled, Outside, Shed, Verdict};
 use ptu_grandmaster::{GmReason, Outcome, Taken};
 use ptu_report_lines::{Decision, DelayAnswer, Reason, Statement};
 use ptu_shard::Answered;
-use ptu_tlvs::Ask;
+use ptu_messages::Ask;
 use ptu_units::{Kind, OutOfMemory};
 
 // Why a datagram was ignored.

@@ -4,3 +4,4 @@ pub mod Slots
 pub mod Sure
 pub mod Telling
 pub mod HandsOver
+pub mod Taken

@@ -11,3 +11,8 @@ pub mod MemoryHost
 pub mod Standard
 pub mod HandsOver
 pub mod Replies
+pub mod Rounds
+pub mod Ports
+pub mod Opening
+pub mod Taken
+pub mod Handed

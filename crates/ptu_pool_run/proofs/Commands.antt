@@ -4,8 +4,8 @@ use Rattle.std.proofs.lemmas.{Bool.{le-leb, lt-leb}, List.{map-append}}
 use Rattle.ptu_outside.specs.MemoryPort.{MemoryPort}
 use Rattle.ptu_report.specs.Rules.{IsOutcome, Outcome, Refuses}
 use Rattle.ptu_script.specs.declared.command.GrandmasterSetup.{GrandmasterSetup}
-use Rattle.ptu_pools.specs.{declared.pool.Pool.{Pool}, Events.{PoolEvent, Turned}, Refusal.{Share}}
-use Rattle.ptu_pools.specs.Standing.{KeptPools}
+use Rattle.ptu_pool_run.specs.{declared.pool.Pool.{Pool}, Events.{PoolEvent, Turned}, Refusal.{Share}}
+use Rattle.ptu_pool_run.specs.PoolsStanding.{KeptPools}
 use Rattle.ptu_pool_run.specs.declared.cause.PoolCause.{PoolCause}
 use Rattle.ptu_pool_run.specs.declared.cause.PoolCause.TheVariants.{Number, Order}
 use Rattle.ptu_pool_run.specs.{Output.{pool_line_text}, declared.pouring.Pouring.{Pouring}}

@@ -3,7 +3,7 @@ use Rattle.std.proofs.Common.{◌≡◌, ◌∙◌, ℕ, ◌+◌, ◌<◌, true,
 use Rattle.std.specs.{List.{flat_map, list_any}, Option.{option_map_or}}
 use Rattle.std.proofs.lemmas.{Bool.{or_from}, List.Folds.{list_any-append}}
 use Rattle.std.proofs.lemmas.Option.{get_or_from_slice_get, slice_get_within}
-use Rattle.ptu_tlvs.specs.declared.tlv.Tlv.{Tlv}
+use Rattle.ptu_messages.specs.declared.tlv.Tlv.{Tlv}
 use Rattle.ptu_outside.specs.Departure.{Departure}
 use Rattle.ptu_report.specs.Rules.{Goes}
 use Rattle.ptu_history.specs.{Core.{core_history, history_after}, Events.{Event}}
@@ -29,9 +29,9 @@ use Rattle.ptu_world.specs.Promises.{IsDecidedByRoom, IsRun, Request, capacity_t
 use Rattle.ptu_world.specs.World.{World, Done, datagram_deed, done_by, sent_from}
 use Rattle.ptu_world.specs.World as worlds
 use Rattle.ptu_world.proofs.Deciding.{is_answered, is_decided, taken_by}
-use Rattle.ptu_pools.specs.{declared.pool.Pool.{Pool}, Events.{PoolEvent, Came, gm_event, own}}
-use Rattle.ptu_pools.specs.Pool.{AreApart, capacity_at, is_in, is_in_at}
-use Rattle.ptu_pools.proofs.Whole.{Quiet, all_quiet, items_quiet, resizes}
+use Rattle.ptu_pool_run.specs.{declared.pool.Pool.{Pool}, Events.{PoolEvent, Came, gm_event, own}}
+use Rattle.ptu_pool_run.specs.Pool.{AreApart, capacity_at, is_in, is_in_at}
+use Rattle.ptu_pool_run.proofs.Whole.{Quiet, all_quiet, items_quiet, resizes}
 use Rattle.ptu_nodes.specs.Standing.{setup_config}
 use Rattle.ptu_pool_run.specs.declared.output.PoolLine.{PoolLine}
 use Rattle.ptu_pool_run.specs.declared.output.PoolLine.TheVariants.{Sent}

@@ -19,9 +19,9 @@ use Rattle.ptu_script.specs.declared.command.GrandmasterSetup.{GrandmasterSetup}
 use Rattle.ptu_world.specs.{Promises.{Timing, messages_in}}
 use Rattle.ptu_world.specs.Grandmasters.{datagram_deed}
 use Rattle.ptu_world.proofs.{Going.{heard_node}, Messages.{Tells, heads, heard_told, turn_told}}
-use Rattle.ptu_pools.specs.{declared.pool.Pool.{Pool}, Events.{PoolEvent, Came, Turned, gm_event, is_own, pool_history}}
-use Rattle.ptu_pools.specs.Pool.{AreApart, capacity_at, is_in, is_in_at}
-use Rattle.ptu_pools.proofs.Standing.{history-mine, history-other}
+use Rattle.ptu_pool_run.specs.{declared.pool.Pool.{Pool}, Events.{PoolEvent, Came, Turned, gm_event, is_own, pool_history}}
+use Rattle.ptu_pool_run.specs.Pool.{AreApart, capacity_at, is_in, is_in_at}
+use Rattle.ptu_pool_run.proofs.Standing.{history-mine, history-other}
 use Rattle.ptu_nodes.specs.Standing.{setup_config}
 use Rattle.ptu_pool_run.specs.declared.{cause.PoolCause.{PoolCause}}
 use Rattle.ptu_pool_run.specs.declared.cause.PoolCause.TheVariants.{Number}

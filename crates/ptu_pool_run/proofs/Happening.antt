@@ -8,12 +8,12 @@ use Rattle.ptu_shard.specs.declared.answered.Turned.{Turned as TableTurned}
 use Rattle.ptu_profile.specs.declared.grandmaster.GmConfig.{GmConfig}
 use Rattle.ptu_gm_messages.specs.Items.{heard_in}
 use Rattle.ptu_grandmaster.specs.{declared.outcome.Taken.{Taken}, Gm.{KeptGm, StandsFor, table_at}}
-use Rattle.ptu_pools.specs.{declared.pool.Pool.{Pool}, Changes.{TookDatagram, TookTurn}}
-use Rattle.ptu_pools.specs.{Events.{PoolEvent, Came, Turned}, Pool.{AreApart, is_in, is_in_at}}
-use Rattle.ptu_pools.specs.Refusal.{Share}
-use Rattle.ptu_pools.specs.Standing.{ChangesOne, KeptPools, StandFor}
-use Rattle.ptu_pools.proofs.Places.{found_in, none_in, one_place}
-use Rattle.ptu_pools.proofs.Standing.{get-set_other, get-set_same}
+use Rattle.ptu_pool_run.specs.{declared.pool.Pool.{Pool}, Changes.{TookDatagram, TookTurn}}
+use Rattle.ptu_pool_run.specs.{Events.{PoolEvent, Came, Turned}, Pool.{AreApart, is_in, is_in_at}}
+use Rattle.ptu_pool_run.specs.Refusal.{Share}
+use Rattle.ptu_pool_run.specs.PoolsStanding.{ChangesOne, KeptPools, StandFor}
+use Rattle.ptu_pool_run.proofs.Places.{found_in, none_in, one_place}
+use Rattle.ptu_pool_run.proofs.Standing.{get-set_other, get-set_same}
 use Rattle.ptu_script.specs.declared.command.GrandmasterSetup.{GrandmasterSetup}
 use Rattle.ptu_world.specs.{Deeds.{Grandmaster}, Grandmasters.{datagram_deed, turn_deed}}
 use Rattle.ptu_nodes.specs.GrandmasterPorts.{HasReplyRoom, HasRoom, in_ports}

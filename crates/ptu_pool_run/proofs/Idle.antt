@@ -5,8 +5,8 @@ use Rattle.std.proofs.lemmas.List.Elements.{recursion_from_All}
 use Rattle.ptu_outside.specs.MemoryPort.{MemoryPort}
 use Rattle.ptu_grandmaster.specs.Gm.{KeptGm}
 use Rattle.ptu_script.specs.declared.command.GrandmasterSetup.{GrandmasterSetup}
-use Rattle.ptu_pools.specs.{declared.pool.Pool.{Pool}, Refusal.{Share}}
-use Rattle.ptu_pools.specs.Standing.{KeptPools, StandFor, ports_of_all}
+use Rattle.ptu_pool_run.specs.{declared.pool.Pool.{Pool}, Refusal.{Share}}
+use Rattle.ptu_pool_run.specs.PoolsStanding.{KeptPools, StandFor, ports_of_all}
 use Rattle.ptu_nodes.specs.Standing.{AreIdle, AreSure, IsIdle, IsUnfailing, setup_config}
 use Rattle.ptu_pool_run.specs.Standing.{AreSold}
 

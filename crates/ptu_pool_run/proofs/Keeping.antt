@@ -6,8 +6,8 @@ use Rattle.ptu_report.specs.declared.ending.Ending.{Ending}
 use Rattle.ptu_report.specs.Rules.{Goes, Outcome, Refuses, closing, ending_after, ending_at, texts_at, texts_of, texts_until}
 use Rattle.ptu_script.specs.declared.cause.Cause.{Cause}
 use Rattle.ptu_script.specs.declared.command.GrandmasterSetup.{GrandmasterSetup}
-use Rattle.ptu_pools.specs.{declared.pool.Pool.{Pool}, Events.{PoolEvent, Came, Turned}}
-use Rattle.ptu_pools.specs.{Pool.{AreApart}, Refusal.{Share}}
+use Rattle.ptu_pool_run.specs.{declared.pool.Pool.{Pool}, Events.{PoolEvent, Came, Turned}}
+use Rattle.ptu_pool_run.specs.{Pool.{AreApart}, Refusal.{Share}}
 use Rattle.ptu_pool_run.specs.declared.cause.{PoolCause.{PoolCause}, PoolCause.TheVariants.{Number}}
 use Rattle.ptu_pool_run.specs.declared.command.PoolCommand.{PoolCommand}
 use Rattle.ptu_pool_run.specs.declared.command.PoolCommand.TheVariants as commands

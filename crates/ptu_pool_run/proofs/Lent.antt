@@ -5,7 +5,7 @@ use Rattle.std.proofs.lemmas.Bool.{cases_eq, ne_eqb}
 use Rattle.ptu_outside.specs.MemoryPort.{MemoryPort}
 use Rattle.ptu_shard.specs.Table.{Kept}
 use Rattle.ptu_grandmaster.specs.Gm.{KeptGm, port_at, table_at, with_port}
-use Rattle.ptu_pools.specs.{Ported.{with_port_at, with_port_of}, Standing.{KeptPools}}
+use Rattle.ptu_pool_run.specs.{Ported.{with_port_at, with_port_of}, PoolsStanding.{KeptPools}}
 use Rattle.ptu_nodes.specs.GrandmasterPorts.{HasReplyRoom, HasRoom}
 use Rattle.ptu_pool_run.specs.Ports.{AreAllIdle, AreAllSure, GoOnIdle}
 

@@ -13,3 +13,12 @@ mod Serving
 pub mod Keeping
 mod Poured
 pub mod Promising
+pub mod Apart
+pub mod Places
+pub mod Standing
+mod Ported
+mod Fresh
+pub mod Whole
+pub mod Refused
+pub mod Alone
+mod Taken

@@ -10,7 +10,7 @@ use Rattle.ptu_script.specs.declared.command.GrandmasterSetup.{GrandmasterSetup}
 use Rattle.ptu_script.specs.Command.{grandmaster_in, is_comment, moment_of}
 use Rattle.ptu_script.specs.{Fields.{◌>>=◌, capacity_of, field, from_to}, Limits.{IsGrandmasterWithin}}
 use Rattle.ptu_world.proofs.Limits.{grandmaster_within, number_is, ok_bound, ok_either}
-use Rattle.ptu_pools.specs.{declared.pool.Pool.{Pool}, Events.{Turned}}
+use Rattle.ptu_pool_run.specs.{declared.pool.Pool.{Pool}, Events.{Turned}}
 use Rattle.ptu_pool_run.specs.declared.cause.{PoolCause.{PoolCause}, PoolCause.TheVariants.{Number}}
 use Rattle.ptu_pool_run.specs.declared.{command.PoolCommand.{PoolCommand}, verb.PoolVerb.{PoolVerb}}
 use Rattle.ptu_pool_run.specs.declared.command.PoolCommand.TheVariants as commands

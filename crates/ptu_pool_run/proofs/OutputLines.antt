@@ -7,10 +7,10 @@ use Rattle.ptu_grandmaster.specs.Driven.{driven_history}
 use Rattle.ptu_report.specs.declared.ending.Ending.{Ending}
 use Rattle.ptu_report.specs.declared.ending.Ending.TheVariants as endings
 use Rattle.ptu_script.specs.declared.command.GrandmasterSetup.{GrandmasterSetup}
-use Rattle.ptu_pools.specs.declared.pool.Pool.{Pool}
-use Rattle.ptu_pools.specs.Events.{PoolEvent, Came, Turned, gm_event, is_own, own}
-use Rattle.ptu_pools.specs.Pool.{AreApart, capacity_at, is_in, is_in_at}
-use Rattle.ptu_pools.proofs.Places.{found_mine, none_in}
+use Rattle.ptu_pool_run.specs.declared.pool.Pool.{Pool}
+use Rattle.ptu_pool_run.specs.Events.{PoolEvent, Came, Turned, gm_event, is_own, own}
+use Rattle.ptu_pool_run.specs.Pool.{AreApart, capacity_at, is_in, is_in_at}
+use Rattle.ptu_pool_run.proofs.Places.{found_mine, none_in}
 use Rattle.ptu_nodes.specs.Standing.{setup_config}
 use Rattle.ptu_pool_run.specs.declared.{cause.PoolCause.{PoolCause}, output.PoolLine.{PoolLine}}
 use Rattle.ptu_pool_run.specs.Reading.{At}

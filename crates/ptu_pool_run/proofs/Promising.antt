@@ -4,8 +4,8 @@ use Rattle.std.proofs.lemmas.List.Elements.{All-nil}
 use Rattle.ptu_lines.specs.Script.{script_lines}
 use Rattle.ptu_units.specs.Limits.{IsCapacity}
 use Rattle.ptu_script.specs.declared.command.GrandmasterSetup.{GrandmasterSetup}
-use Rattle.ptu_pools.specs.{declared.pool.Pool.{Pool}, Pool.{AreApart}, Refusal.{Share}}
-use Rattle.ptu_pools.proofs.Whole.{count_whole, held_own, held_whole}
+use Rattle.ptu_pool_run.specs.{declared.pool.Pool.{Pool}, Pool.{AreApart}, Refusal.{Share}}
+use Rattle.ptu_pool_run.proofs.Whole.{count_whole, held_own, held_whole}
 use Rattle.ptu_nodes.specs.Standing.{setup_config}
 use Rattle.ptu_pool_run.specs.Poured.{pool_ending, is_line_of, last_line, lines_by_setup, lines_of_pool, own_at, own_lines_by, told_in}
 use Rattle.ptu_pool_run.specs.Promises.{AreMessagesWritten, KeepsPools, SayAlike, Sold, lines_to_pool, timing_in}

@@ -28,9 +28,9 @@ use Rattle.ptu_report.specs.declared.ending.Ending.{Ending}
 use Rattle.ptu_report.specs.declared.ending.Ending.TheVariants as endings
 use Rattle.ptu_script.specs.declared.command.GrandmasterSetup.{GrandmasterSetup}
 use Rattle.ptu_world.specs.{Deeds.{Grandmaster}, Grandmasters.{heard_deed, turn_deed}}
-use Rattle.ptu_pools.specs.{declared.pool.Pool.{Pool}, Events.{PoolEvent, Came, Turned, gm_event, is_own, pool_history}}
-use Rattle.ptu_pools.specs.Pool.{AreApart, capacity_at, is_in, is_in_at}
-use Rattle.ptu_pools.proofs.{Places.{found_in, one_place}, Standing.{history-mine, history-other}}
+use Rattle.ptu_pool_run.specs.{declared.pool.Pool.{Pool}, Events.{PoolEvent, Came, Turned, gm_event, is_own, pool_history}}
+use Rattle.ptu_pool_run.specs.Pool.{AreApart, capacity_at, is_in, is_in_at}
+use Rattle.ptu_pool_run.proofs.{Places.{found_in, one_place}, Standing.{history-mine, history-other}}
 use Rattle.ptu_nodes.specs.Standing.{setup_config}
 use Rattle.ptu_pool_run.specs.declared.cause.PoolCause.{PoolCause}
 use Rattle.ptu_pool_run.specs.{Promises.{is_line_to}, Reading.{At}}

@@ -6,12 +6,12 @@ use Rattle.std.proofs.lemmas.List.{get_or_append_left, get_or_push}
 use Rattle.std.proofs.lemmas.List.Quantifiers.{position-Some}
 use Rattle.std.proofs.lemmas.Option.{get_or_from_slice_get, slice_get-get_or}
 use Rattle.std.proofs.lemmas.List.Sums.{sum_by-append}
-use Rattle.ptu_pools.specs.declared.fault.PoolsFault.{PoolsFault}
-use Rattle.ptu_pools.specs.declared.fault.PoolsFault.TheVariants as faults
-use Rattle.ptu_pools.specs.{declared.pool.Pool.{Pool}, Pool.{AreApart, is_network, meets}}
-use Rattle.ptu_pools.specs.Refusal.{IsRefused, Share, capacities, first_wrong}
-use Rattle.ptu_pools.proofs.Apart.{NoneBelow, all_apart, first_found, none_found, none_passes}
-use Rattle.ptu_pools.proofs.Refused.{one_refused}
+use Rattle.ptu_pool_run.specs.declared.pools_fault.PoolsFault.{PoolsFault}
+use Rattle.ptu_pool_run.specs.declared.pools_fault.PoolsFault.TheVariants as faults
+use Rattle.ptu_pool_run.specs.{declared.pool.Pool.{Pool}, Pool.{AreApart, is_network, meets}}
+use Rattle.ptu_pool_run.specs.Refusal.{IsRefused, Share, capacities, first_wrong}
+use Rattle.ptu_pool_run.proofs.Apart.{NoneBelow, all_apart, first_found, none_found, none_passes}
+use Rattle.ptu_pool_run.proofs.Refused.{one_refused}
 use Rattle.ptu_pool_run.specs.declared.cause.PoolCause.{PoolCause}
 use Rattle.ptu_pool_run.specs.declared.cause.PoolCause.TheVariants as causes
 use Rattle.ptu_pool_run.specs.Selling.{selling_refusal}

@@ -12,3 +12,11 @@ pub mod Ports
 pub mod Standing
 pub mod Answers
 pub mod Samples
+pub mod Pool
+pub mod Refusal
+pub mod Events
+pub mod PoolsStanding
+pub mod Making
+pub mod Changes
+pub mod Ported
+pub mod Lends

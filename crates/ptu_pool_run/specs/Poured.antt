@@ -5,7 +5,7 @@ use Rattle.ptu_lines.specs.Script.{ScriptLine, Whole, Refused, script_lines}
 use Rattle.ptu_report.specs.declared.ending.Ending.{Ending}
 use Rattle.ptu_report.specs.declared.ending.Ending.TheVariants as endings
 use Rattle.ptu_report.specs.Rules.{Outcome, Goes, Refuses, ending_of}
-use Rattle.ptu_pools.specs.{declared.pool.Pool.{Pool}, Events.{PoolEvent, is_own}}
+use Rattle.ptu_pool_run.specs.{declared.pool.Pool.{Pool}, Events.{PoolEvent, is_own}}
 use Rattle.ptu_script.specs.declared.command.GrandmasterSetup.{GrandmasterSetup}
 use Rattle.ptu_pool_run.specs.declared.{cause.PoolCause.{PoolCause}, output.PoolLine.{PoolLine}}
 use Rattle.ptu_pool_run.specs.declared.output.PoolLine.TheVariants.{Sent, Stranger, Bad, End}

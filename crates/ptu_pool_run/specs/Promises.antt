@@ -3,7 +3,7 @@ use Rattle.std.specs.Prelude.{◌≡◌, ◌≢◌, ℕ, ◌+◌, ◌-◌, ◌*�
 use Rattle.std.specs.List.{position}
 use Rattle.ptu_lines.specs.Script.{script_lines}
 use Rattle.ptu_report.specs.Rules.{Goes, texts_of}
-use Rattle.ptu_tlvs.specs.declared.tlv.Tlv.{Tlv}
+use Rattle.ptu_messages.specs.declared.tlv.Tlv.{Tlv}
 use Rattle.ptu_history.specs.{Core.{core_history, history_after}, Held.{count, held}, History.{Record, Granted}}
 use Rattle.ptu_history.specs.Events as events
 use Rattle.ptu_history.specs.Events.{Event}
@@ -19,9 +19,9 @@ use Rattle.ptu_history.specs.{Live.{last_decision}, Runs.{chain}, Verdict.{Confi
 use Rattle.ptu_laws.specs.Served.{held_time, held_time_at, periods_sent, sent_at}
 use Rattle.ptu_laws.specs.Turned.{IsInEach, sent_moments, turn_moments}
 use Rattle.ptu_grandmaster.specs.Driven as driven
-use Rattle.ptu_pools.specs.Events as pool_events
-use Rattle.ptu_pools.specs.{Events.{gm_event, over_all, pool_history}, declared.pool.Pool.{Pool}}
-use Rattle.ptu_pools.specs.Pool.{capacity_at, is_in, is_in_at}
+use Rattle.ptu_pool_run.specs.Events as pool_events
+use Rattle.ptu_pool_run.specs.{Events.{gm_event, over_all, pool_history}, declared.pool.Pool.{Pool}}
+use Rattle.ptu_pool_run.specs.Pool.{capacity_at, is_in, is_in_at}
 use Rattle.ptu_script.specs.declared.command.GrandmasterSetup.{GrandmasterSetup}
 use Rattle.ptu_world.specs.Deeds.{Grandmaster}
 use Rattle.ptu_world.specs.Promises.{IsDecidedByRoom, Request, Timing, capacity_then, decision, messages_in, timing_to}

@@ -2,8 +2,8 @@
 -- events, from the empty history and with the pool's own capacity (the project's own choice).
 use Rattle.std.specs.{Prelude.{ℕ, ◌+◌, List, ◌∷◌, [], map, Option, Some, None}, List.{position}}
 use Rattle.ptu_outside.specs.Departure.{Departure}
-use Rattle.ptu_pools.specs.{declared.pool.Pool.{Pool}, Pool.{capacity_at, is_in}}
-use Rattle.ptu_pools.specs.Events.{PoolEvent, Came, Turned, pool_history}
+use Rattle.ptu_pool_run.specs.{declared.pool.Pool.{Pool}, Pool.{capacity_at, is_in}}
+use Rattle.ptu_pool_run.specs.Events.{PoolEvent, Came, Turned, pool_history}
 use Rattle.ptu_script.specs.declared.command.GrandmasterSetup.{GrandmasterSetup}
 use Rattle.ptu_world.specs.{Deeds.{Grandmaster}, Grandmasters.{datagram_deed, turn_deed}}
 use Rattle.ptu_nodes.specs.Standing.{setup_config}

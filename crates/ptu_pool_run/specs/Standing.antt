@@ -1,8 +1,8 @@
 -- What the value that the program keeps stands for.
 use Rattle.std.specs.Prelude.{◌≡◌, ◌≤◌, ℕ, List, [], ◌∷◌, ◌++◌, length, map, All, Bool, true, false, Option, Some, None, IfSome}
 use Rattle.ptu_outside.specs.MemoryPort.{MemoryPort}
-use Rattle.ptu_pools.specs.{declared.pool.Pool.{Pool}, Events.{PoolEvent}, Refusal.{Share}}
-use Rattle.ptu_pools.specs.Standing.{KeptPools, StandFor}
+use Rattle.ptu_pool_run.specs.{declared.pool.Pool.{Pool}, Events.{PoolEvent}, Refusal.{Share}}
+use Rattle.ptu_pool_run.specs.PoolsStanding.{KeptPools, StandFor}
 use Rattle.ptu_script.specs.declared.command.GrandmasterSetup.{GrandmasterSetup}
 use Rattle.ptu_nodes.specs.Standing.{setup_config}
 use Rattle.ptu_pool_run.specs.{declared.pouring.Pouring.{Pouring}, Reading.{At, Told, pool_events}}

@@ -5,7 +5,7 @@ ghost use Rattle.ptu_pool_run.specs.Cause.{pool_cause_of_line, cause_of_script, 
 
 use ptu_lines::LineCause;
 use ptu_script::Cause;
-use ptu_writing::{LinePart, LineText};
+use ptu_lines::{LinePart, LineText};
 use std::error::Error;
 use std::fmt;
 

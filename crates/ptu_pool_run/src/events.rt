@@ -5,7 +5,7 @@ ghost use Rattle.std.specs.List.{position};
 ghost use Rattle.ptu_outside.specs.MemoryPort.{MemoryPort};
 ghost use Rattle.ptu_grandmaster.specs.Gm.{KeptGm};
 ghost use Rattle.ptu_nodes.specs.GrandmasterPorts.{HasReplyRoom};
-ghost use Rattle.ptu_pools.specs.{Events.{Came, PoolEvent, Turned as TurnedEvent}, Pool.{is_in}};
+ghost use Rattle.ptu_pool_run.specs.{Events.{Came, PoolEvent, Turned as TurnedEvent}, Pool.{is_in}};
 ghost use Rattle.ptu_pool_run.specs.Ports.{GoOnIdle};
 ghost use Rattle.ptu_pool_run.specs.Standing.{AreSold, HasHappened};
 ghost use Rattle.ptu_script.specs.declared.command.GrandmasterSetup.{GrandmasterSetup};
@@ -13,7 +13,7 @@ ghost use Rattle.ptu_script.specs.declared.command.GrandmasterSetup.{Grandmaster
 use crate::output::PoolLine;
 use crate::room::{reserve_replies, reserve_turn, tell_ports};
 use ptu_outside::MemPort;
-use ptu_pools::{Pool, PoolTaken, Pools};
+use crate::{Pool, PoolTaken, Pools};
 use ptu_report::Texts;
 use ptu_units::{Moment, OutOfMemory};
 

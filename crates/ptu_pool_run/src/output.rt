@@ -11,7 +11,7 @@ use ptu_outside::Channel;
 use ptu_report_lines::ChannelText;
 use ptu_texts::AddressText;
 use ptu_units::OutOfMemory;
-use ptu_writing::{Draft, LinePart, LineText, Text};
+use ptu_lines::{Draft, LinePart, LineText, Text};
 
 /// A line of output. Its text has the 0A at its end. Lines of the script are numbered from 1.
 #[derive(Drop)]

@@ -1,7 +1,7 @@
 //! What the lines of a script so far have made of a grandmaster and its pools.
 
 ghost use Rattle.std.specs.Prelude.{◌≡◌, ◌<◌, ◌≤◌, [], IfOk};
-ghost use Rattle.ptu_pools.specs.Events.{Came};
+ghost use Rattle.ptu_pool_run.specs.Events.{Came};
 ghost use Rattle.ptu_report.specs.Rules.{IsOutcome};
 ghost use Rattle.ptu_pool_run.specs.Limits.{IsPoolCommandInRange};
 ghost use Rattle.ptu_pool_run.specs.Reading.{Told, behind_pools, happened, none_told, told_setup, sold};
@@ -13,7 +13,7 @@ use crate::events::{receive, turn};
 use crate::fault::Stepped;
 use crate::selling::sell;
 use ptu_outside::MemPort;
-use ptu_pools::{Pool, Pools};
+use crate::{Pool, Pools};
 use ptu_report::Texts;
 use ptu_script::GrandmasterSetup;
 use ptu_units::Moment;

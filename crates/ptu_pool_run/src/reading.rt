@@ -9,7 +9,7 @@ ghost use Rattle.ptu_pool_run.specs.declared.verb.PoolVerb.TheVariants as verbs;
 use crate::command::PoolCommand;
 use crate::verb::PoolVerb;
 use ptu_lines::WordList;
-use ptu_pools::Pool;
+use crate::Pool;
 use ptu_script::Cause;
 use ptu_script::fields::{
     bits_field, capacity_field, ip_field, moment_field, number_field, octets_field,

@@ -5,14 +5,14 @@ ghost use Rattle.ptu_outside.specs.MemoryPort.{MemoryPort};
 ghost use Rattle.ptu_grandmaster.specs.Gm.{KeptGm, port_at, table_at, with_port};
 ghost use Rattle.ptu_nodes.specs.GrandmasterPorts.{HasReplyRoom, HasRoom, in_ports};
 ghost use Rattle.ptu_nodes.specs.Standing.{AreIdle};
-ghost use Rattle.ptu_pools.specs.Ported.{with_port_of};
+ghost use Rattle.ptu_pool_run.specs.Ported.{with_port_of};
 ghost use Rattle.ptu_pool_run.specs.Ports.{AreAllSure, AreOthersSame, GoOn, GoOnIdle, sent_texts};
 
 use crate::output::PoolLine;
 use ptu_grandmaster::SIGNALING_PORT;
 use ptu_lines::LentOctets;
 use ptu_outside::MemPort;
-use ptu_pools::Pools;
+use crate::Pools;
 use ptu_report::Texts;
 use ptu_units::OutOfMemory;
 use ptu_units::sizes::{ANNOUNCE_LENGTH, DELAY_RESP_LENGTH, LONGEST_SIGNALING};

@@ -1,13 +1,13 @@
 //! Pools are sold one after the other.
 
 ghost use Rattle.std.specs.Prelude.{◌≡◌, ◌++◌, ◌∷◌, [], All, IfErr, IfOk, None, Some, length};
-ghost use Rattle.ptu_pools.specs.Refusal.{Share};
+ghost use Rattle.ptu_pool_run.specs.Refusal.{Share};
 ghost use Rattle.ptu_pool_run.specs.{Selling.{selling_refusal}, Standing.{AreSold}};
 
 use crate::cause::PoolCause;
 use ptu_nodes::config_of;
 use ptu_outside::MemPort;
-use ptu_pools::{Pool, Pools, PoolsFault};
+use crate::{Pool, Pools, PoolsFault};
 use ptu_script::GrandmasterSetup;
 use ptu_units::OutOfMemory;
 use std::alloc::Global;

@@ -1,6 +1,6 @@
 -- What a grandmaster is set up with, its limits (the project's own choice), and the headers of its messages.
 use Rattle.std.specs.Prelude.{ℕ, ℤ}
-use Rattle.ptu_header.specs.declared.header.Header.{Header}
+use Rattle.ptu_messages.specs.declared.header.Header.{Header}
 use Rattle.ptu_profile.specs.{declared.grandmaster.GmConfig.{GmConfig}, Headers.{unicast_header}}
 use Rattle.ptu_units.specs.Limits.{IsDomain, IsDuration, IsEpoch}
 

@@ -2,7 +2,7 @@
 use Rattle.std.specs.Prelude.{◌≢◌, ℕ, ◌≤◌, List, length, map, slice_index, position, Option, ◌==◌, pos}
 use Rattle.std.specs.List.{AllPairs}
 use Rattle.ptu_record.specs.{SignalFails.{Timeouts}, Wants.{timeouts_of}}
-use Rattle.ptu_header.specs.declared.header.Header.{Header}
+use Rattle.ptu_messages.specs.declared.header.Header.{Header}
 use Rattle.ptu_profile.specs.Headers.{unicast_header}
 use Rattle.ptu_profile.specs.declared.slave.{Master.{Master}, SlaveConfig.{SlaveConfig}}
 

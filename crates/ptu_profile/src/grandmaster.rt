@@ -3,7 +3,7 @@
 ghost use Rattle.std.specs.Prelude.{◌≡◌};
 
 use crate::headers::header_from;
-use ptu_header::{Header, PortIdentity};
+use ptu_messages::{Header, PortIdentity};
 use ptu_units::{Domain, Epoch, GrantSeconds};
 
 /// What a grandmaster is set up with. The types of its fields keep them within their limits.

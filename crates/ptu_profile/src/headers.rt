@@ -3,7 +3,7 @@
 ghost use Rattle.std.specs.Prelude.{◌≡◌};
 ghost use Rattle.ptu_profile.specs.Headers.{unicast_header};
 
-use ptu_header::{Header, PortIdentity, flags};
+use ptu_messages::{Header, PortIdentity, flags};
 use ptu_units::Domain;
 
 /// The header of a message of this type that a port of a domain sends to one address: the

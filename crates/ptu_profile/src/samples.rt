@@ -1,7 +1,7 @@
 //! Values for tests and examples.
 
 use crate::GmConfig;
-use ptu_header::PortIdentity;
+use ptu_messages::PortIdentity;
 use ptu_units::{Domain, Epoch, GrantSeconds};
 
 /// A grandmaster's fields: domain 4, clockClass 84, and grants of at most 300 s.

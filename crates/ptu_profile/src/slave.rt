@@ -3,7 +3,7 @@
 ghost use Rattle.std.specs.Prelude.{◌≡◌};
 
 use crate::headers::header_from;
-use ptu_header::{Header, PortIdentity};
+use ptu_messages::{Header, PortIdentity};
 use ptu_record::Wants;
 use ptu_units::{Domain, ReceiptTimeout, WaitToRestore};
 

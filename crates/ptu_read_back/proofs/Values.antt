@@ -7,11 +7,11 @@ use Rattle.std.proofs.lemmas.{Int.{ints}, Fmt.{length-decimal-le}}
 use Rattle.std.proofs.lemmas.List.{length-append, take_at, drop_at, get_or-append_right, append_assoc}
 use Rattle.hex.specs.Hex.{IsBytes, encode_lower, encode_with, lower_digits}
 use Rattle.hex.proofs.HexLemmas.{length-encode_with}
-use Rattle.ptu_octets.specs.Number as numbers
-use Rattle.ptu_octets.proofs.Numbers.{length-octets_of}
+use Rattle.ptu_units.specs.Number as numbers
+use Rattle.ptu_units.proofs.Numbers.{length-octets_of}
 use Rattle.ptu_units.specs.declared.kind.{Kind.{Kind}, Kind.TheVariants.{Announce, Sync, DelayResp}}
 use Rattle.ptu_units.specs.{Log.{IsLogOf, least_log}}
-use Rattle.ptu_header.specs.declared.header.PortIdentity.{PortIdentity}
+use Rattle.ptu_messages.specs.declared.header.PortIdentity.{PortIdentity}
 use Rattle.ptu_outside.specs.declared.channel.{Channel.{Channel}, Channel.TheVariants.{Event, General}}
 use Rattle.ptu_texts.specs.Texts.{address_text, clock_text, identity_text, kind_text}
 use Rattle.ptu_texts.proofs.Read.{clock_read, decimal_glyphs, decimal_within, octets_bytes, octets_glyphs, octets_read}

@@ -2,10 +2,10 @@
 use Rattle.std.specs.Prelude.{ℕ, ◌<◌, ◌≤◌, ◌^◌, ℤ, pos, negsuc, ◌≤ℤ◌, length, Option, Some, None}
 use Rattle.hex.specs.Hex.{IsBytes}
 use Rattle.ptu_units.specs.{Log.{IsLogOf}}
-use Rattle.ptu_header.specs.declared.fault.HeaderFault.{HeaderFault}
-use Rattle.ptu_header.specs.declared.fault.HeaderFault.TheVariants as headers
-use Rattle.ptu_tlvs.specs.declared.fault.TlvFault.{TlvFault}
-use Rattle.ptu_tlvs.specs.declared.fault.TlvFault.TheVariants as tlvs
+use Rattle.ptu_messages.specs.declared.header_fault.HeaderFault.{HeaderFault}
+use Rattle.ptu_messages.specs.declared.header_fault.HeaderFault.TheVariants as headers
+use Rattle.ptu_messages.specs.declared.tlvs_fault.TlvFault.{TlvFault}
+use Rattle.ptu_messages.specs.declared.tlvs_fault.TlvFault.TheVariants as tlvs
 use Rattle.ptu_messages.specs.declared.fault.MessageFault.{MessageFault}
 use Rattle.ptu_messages.specs.declared.fault.MessageFault.TheVariants as messages
 use Rattle.ptu_history.specs.declared.client.Client.{Client}

@@ -1,11 +1,11 @@
 //! The texts of one line, gathered in one buffer before any of them is written.
 
 ghost use Rattle.std.specs.Prelude.{◌≡◌, ◌++◌, ◌∷◌, [], ◌<◌, length, get_or, OnOk, OnErr};
-ghost use Rattle.ptu_writing.specs.Draft.{Drafted};
+ghost use Rattle.ptu_lines.specs.Draft.{Drafted};
 
 use crate::span::Span;
 use ptu_units::OutOfMemory;
-use ptu_writing::{Draft, Text};
+use ptu_lines::{Draft, Text};
 use std::alloc::Global;
 use std::marker::Model;
 

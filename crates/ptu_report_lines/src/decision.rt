@@ -9,7 +9,7 @@ ghost use Rattle.ptu_report_lines.specs.declared.decision.Decision.TheVariants a
 use crate::words::{Word, put_words};
 use ptu_texts::KindText;
 use ptu_units::{Kind, Moment};
-use ptu_writing::{LinePart, LineText};
+use ptu_lines::{LinePart, LineText};
 
 /// What a grandmaster decided on a REQUEST or a CANCEL. Rates and capacities are in sixteenths of a
 /// message per second.

@@ -5,7 +5,7 @@ ghost use Rattle.ptu_report_lines.specs.Statements.{delay_text};
 
 use crate::words::{Word, put_words};
 use ptu_units::Moment;
-use ptu_writing::{LinePart, LineText};
+use ptu_lines::{LinePart, LineText};
 
 /// What a Delay_Req came to at a grandmaster.
 #[derive(Clone, Copy)]

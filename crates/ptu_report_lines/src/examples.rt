@@ -1,7 +1,7 @@
 //! One line of each form. Each clause is one line; the bodies are empty.
 ghost use Rattle.std.specs.Prelude.{◌≡◌, ◌∷◌, [], Some, None, pos, negsuc, codes};
 ghost use Rattle.ptu_units.specs.declared.kind.Kind.TheVariants as kinds;
-ghost use Rattle.ptu_header.specs.declared.fault.HeaderFault.TheVariants as headers;
+ghost use Rattle.ptu_messages.specs.declared.header_fault.HeaderFault.TheVariants as headers;
 ghost use Rattle.ptu_messages.specs.declared.fault.MessageFault.TheVariants as faults;
 ghost use Rattle.ptu_outside.specs.declared.channel.Channel.TheVariants as channels;
 ghost use Rattle.ptu_script.specs.declared.cause.Cause.TheVariants as causes;

@@ -6,7 +6,7 @@ ghost use Rattle.ptu_report_lines.specs.Statements.{hearing_text, words_text};
 
 use crate::words::{Word, put_words};
 use ptu_units::Moment;
-use ptu_writing::{LinePart, LineText};
+use ptu_lines::{LinePart, LineText};
 
 /// What a slave heard of a master, which is named by its address.
 #[derive(Clone, Copy)]

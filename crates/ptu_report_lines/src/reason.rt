@@ -5,7 +5,7 @@ ghost use Rattle.ptu_report_lines.specs.Statements.{reason_text};
 
 use ptu_messages::MessageFault;
 use ptu_texts::FaultText;
-use ptu_writing::{LinePart, LineText};
+use ptu_lines::{LinePart, LineText};
 
 /// Why a node ignored a datagram.
 #[derive(Clone, Copy)]

@@ -7,7 +7,7 @@ ghost use Rattle.ptu_report_lines.specs.declared.report_line.ReportLine.TheVaria
 use crate::statement::Statement;
 use crate::words::{Word, put_words};
 use ptu_units::OutOfMemory;
-use ptu_writing::{Draft, LineText, Text};
+use ptu_lines::{Draft, LineText, Text};
 
 /// A line of a report. Its text has the 0A at its end.
 #[derive(Drop)]

@@ -10,7 +10,7 @@ use crate::words::ChannelText;
 use ptu_outside::{Channel, Datagram};
 use ptu_texts::AddressText;
 use ptu_units::OutOfMemory;
-use ptu_writing::{Draft, LinePart, LineText, Text};
+use ptu_lines::{Draft, LinePart, LineText, Text};
 use std::marker::Model;
 
 /// A datagram that a node sent.

@@ -7,7 +7,7 @@ use crate::sent::SentRef;
 use ptu_outside::Channel;
 use ptu_report::Texts;
 use ptu_units::OutOfMemory;
-use ptu_writing::{Draft, Text};
+use ptu_lines::{Draft, Text};
 use std::alloc::Global;
 use std::marker::Model;
 

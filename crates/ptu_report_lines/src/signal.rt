@@ -5,7 +5,7 @@ ghost use Rattle.ptu_report_lines.specs.Statements.{received_text};
 
 use crate::words::{Word, put_words};
 use ptu_units::Kind;
-use ptu_writing::{LinePart, LineText};
+use ptu_lines::{LinePart, LineText};
 
 /// What a TLV of a Signaling said to a slave.
 #[derive(Clone, Copy)]

@@ -17,8 +17,8 @@ use Rattle.ptu_script.specs.declared.cause.Cause.{Cause}
 use Rattle.ptu_lab.specs.{declared.done.Done.{Done}, Replayed.{HasReplayed, IfReplayed}}
 use Rattle.ptu_show.specs.{Shown.{HasShown}, Joined.{HasJoined}}
 use Rattle.ptu_pool_run.specs.{declared.cause.PoolCause.{PoolCause}, Answers.{HasPoured}}
-use Rattle.ptu_words.specs.declared.command.Command.{Command}
-use Rattle.ptu_words.specs.declared.command.Command.TheVariants.{Join, Pools, Replay, Show}
+use Rattle.ptu_run.specs.declared.command.Command.{Command}
+use Rattle.ptu_run.specs.declared.command.Command.TheVariants.{Join, Pools, Replay, Show}
 use Rattle.ptu_run.specs.Answers.{AreFaultsAnswered, HasEnded, IsFaultAnswered}
 use Rattle.ptu_run.specs.Run.{HasRun, HasRunUnlessFailed, IsStatusOf, ends_whole, has_end, is_whole, output_of, status_by, status_of_answer, statuses}
 

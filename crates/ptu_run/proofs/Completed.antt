@@ -3,8 +3,8 @@ use Rattle.std.proofs.Common.{arith, ◌≡◌, ◌≢◌, ◌⊎◌, ◌∙◌,
 use Rattle.std.specs.Prelude.{if◌then◌else◌}
 use Rattle.std.proofs.lemmas.Bool.Decides.{eqb_tells}
 use Rattle.ptu_config.specs.Refusals.{gm_refusal, slave_refusal}
-use Rattle.ptu_words.specs.declared.command.Command.{Command}
-use Rattle.ptu_words.specs.declared.command.Command.TheVariants.{Replay, Show, Load, Serve, Slave, Join, Audit, Pools}
+use Rattle.ptu_run.specs.declared.command.Command.{Command}
+use Rattle.ptu_run.specs.declared.command.Command.TheVariants.{Replay, Show, Load, Serve, Slave, Join, Audit, Pools}
 use Rattle.ptu_world.specs.World.{Stock}
 use Rattle.ptu_run.specs.Run.{IsAccepted, IsOfLab, IsWholeStatus, status_of}
 

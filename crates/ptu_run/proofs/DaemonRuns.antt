@@ -7,9 +7,9 @@ use Rattle.ptu_outside.specs.Telling.{IfTold}
 use Rattle.ptu_config.specs.{declared.key.Key.{Key}, Rules.{Value}}
 use Rattle.ptu_config.specs.{declared.refusal.RefusalLine.{RefusalLine}, Reading.{HasTakenSome}}
 use Rattle.ptu_config.specs.Refusals.{setting_refusal_text}
-use Rattle.ptu_rounds.specs.declared.fault.DaemonFault.{DaemonFault}
-use Rattle.ptu_rounds.specs.declared.fault.DaemonFault.TheVariants.{Open, Write, OutOfMemory}
-use Rattle.ptu_rounds.specs.Opening.{OpenedAt}
+use Rattle.ptu_outside.specs.declared.fault.DaemonFault.{DaemonFault}
+use Rattle.ptu_outside.specs.declared.fault.DaemonFault.TheVariants.{Open, Write, OutOfMemory}
+use Rattle.ptu_outside.specs.Opening.{OpenedAt}
 use Rattle.ptu_config.specs.declared.settings.GmSettings.{GmSettings}
 use Rattle.ptu_daemon.specs.{Answers.{HasAnswered}, Served.{Said}}
 use Rattle.ptu_slave_daemon.specs.Answers.{CountsOpen, CountsWrite}

@@ -3,3 +3,4 @@ pub mod Audited
 pub mod Completed
 pub mod DaemonRuns
 pub mod Loaded
+pub mod Matching

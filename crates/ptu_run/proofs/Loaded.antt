@@ -7,9 +7,9 @@ use Rattle.ptu_report.specs.declared.fault.RunFault.{RunFault}
 use Rattle.ptu_script.specs.declared.cause.Cause.{Cause}
 use Rattle.ptu_report.specs.declared.fault.RunFault.TheVariants.{Line, Read, Write, OutOfMemory}
 use Rattle.ptu_report.specs.Runs.{CountsRead}
-use Rattle.ptu_load.specs.Generated.{IsWriteOrMemory}
+use Rattle.ptu_show.specs.Generated.{IsWriteOrMemory}
 use Rattle.ptu_lab.specs.Load.{summary}
-use Rattle.ptu_words.specs.declared.command.Command.TheVariants.{Load}
+use Rattle.ptu_run.specs.declared.command.Command.TheVariants.{Load}
 use Rattle.ptu_run.specs.Run.{HasLoaded, HasRun, status_of_answer}
 use Rattle.ptu_run.proofs.Answered.{IsWritten}
 

@@ -10,8 +10,8 @@ use Rattle.ptu_config.specs.declared.setup_fault.SetupFault.TheVariants.{Refused
 use Rattle.ptu_config.specs.declared.refusal.RefusalLine.{RefusalLine}
 use Rattle.ptu_config.specs.Reading.{Answers, HasSetUp, HasTakenSome}
 use Rattle.ptu_config.specs.Refusals.{gm_refusal, setting_refusal_text, slave_refusal}
-use Rattle.ptu_rounds.specs.declared.fault.DaemonFault.{DaemonFault}
-use Rattle.ptu_rounds.specs.declared.fault.DaemonFault.TheVariants.{Open, Write, OutOfMemory}
+use Rattle.ptu_outside.specs.declared.fault.DaemonFault.{DaemonFault}
+use Rattle.ptu_outside.specs.declared.fault.DaemonFault.TheVariants.{Open, Write, OutOfMemory}
 use Rattle.ptu_daemon.specs.{Events.{endpoint_of}, Served.{Said, closing_line}, Serving.{HasServed}}
 use Rattle.ptu_daemon.specs.ServingInTwo.{HasServedInTwo}
 use Rattle.ptu_slave_daemon.specs.{Answers.{WasGivenBack, WasOpened}, Happenings.{Selection}}

@@ -22,8 +22,8 @@ use Rattle.ptu_audit.specs.declared.answer.AuditCause.{AuditCause}
 use Rattle.ptu_audit.specs.Audited.{AnswerIsWritten, IsAnswer, IsAuditKept}
 use Rattle.ptu_audit.specs.Reading.{audit_rules, first_reading}
 use Rattle.ptu_config.specs.Refusals.{gm_refusal, slave_refusal}
-use Rattle.ptu_words.specs.declared.command.Command.{Command}
-use Rattle.ptu_words.specs.declared.command.Command.TheVariants.{Replay, Show, Load, Serve, Slave, Join, Audit, Pools}
+use Rattle.ptu_run.specs.declared.command.Command.{Command}
+use Rattle.ptu_run.specs.declared.command.Command.TheVariants.{Replay, Show, Load, Serve, Slave, Join, Audit, Pools}
 
 -- the statuses that there are
 abbrev pub statuses : List ℕ

@@ -2,7 +2,7 @@
 
 ghost use Rattle.std.specs.Prelude.{◌≡◌, map, Contains};
 ghost use Rattle.ptu_judges.specs.Boxes.{IsFreshStock};
-ghost use Rattle.ptu_words.specs.CommandLine.{AreWordsRefused};
+ghost use Rattle.ptu_run.specs.CommandLine.{AreWordsRefused};
 ghost use Rattle.ptu_run.specs.Run.{statuses};
 
 use crate::running::run;

@@ -6,7 +6,7 @@ ghost use Rattle.ptu_run.specs.Run.{status_of_answer, status_of_audit, status_of
 
 use ptu_audit::{Answer, AuditFault};
 use ptu_report::RunFault;
-use ptu_rounds::DaemonFault;
+use ptu_outside::DaemonFault;
 
 /// The command line does not match the words.
 pub const USAGE: u8 = 64;

@@ -4,7 +4,7 @@ ghost use Rattle.std.specs.Prelude.{◌≡◌, ◌≤◌, ◌+◌, ◌++◌, Som
 ghost use Rattle.ptu_script.specs.Cause.{cause_text, cause_of_line};
 
 use ptu_lines::LineCause;
-use ptu_writing::{LinePart, LineText};
+use ptu_lines::{LinePart, LineText};
 use std::error::Error;
 use std::fmt;
 

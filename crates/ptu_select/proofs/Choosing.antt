@@ -9,9 +9,9 @@ use Rattle.ptu_record.specs.{declared.quality.Quality.{Quality}, Quality.{is_usa
 use Rattle.ptu_record.specs.{Record.{Record, record_of}, SignalFails.{Timeouts}}
 use Rattle.ptu_record.specs.Selection.{IsBest, IsSelected, is_better, is_candidate, level, selected_master}
 use Rattle.ptu_record.proofs.Choice.{one_choice, selected_is}
-use Rattle.ptu_fails.specs.declared.state.WatchState.{WatchState}
-use Rattle.ptu_fails.specs.WatchState.{is_eligible_state, state_at, state_of}
-use Rattle.ptu_fails.proofs.Watching.{state_of-is}
+use Rattle.ptu_select.specs.declared.state.WatchState.{WatchState}
+use Rattle.ptu_select.specs.WatchState.{is_eligible_state, state_at, state_of}
+use Rattle.ptu_select.proofs.Watching.{state_of-is}
 use Rattle.ptu_select.specs.declared.master.WatchedMaster.{WatchedMaster}
 use Rattle.ptu_select.specs.declared.candidate.Candidate.{Candidate}
 use Rattle.ptu_select.specs.Candidate.{best_of, better_of, candidate_in, is_better_candidate}

@@ -2,7 +2,7 @@
 use Rattle.std.proofs.Common.{◌≡◌, ℕ, ◌+◌, ◌<◌, ◌≤◌, List, [], ◌∷◌, map, length, take, Option, None, refl, ap, subst, ◌∙◌}
 use Rattle.std.proofs.lemmas.List.{take_all}
 use Rattle.std.specs.List.{enumerate_from, fold}
-use Rattle.ptu_fails.specs.{declared.state.WatchState.{WatchState}, WatchState.{state_of}}
+use Rattle.ptu_select.specs.{declared.state.WatchState.{WatchState}, WatchState.{state_of}}
 use Rattle.ptu_select.specs.declared.master.WatchedMaster.{WatchedMaster}
 use Rattle.ptu_select.specs.declared.candidate.Candidate.{Candidate}
 use Rattle.ptu_select.specs.Candidate.{best_of, better_of, candidate_in}

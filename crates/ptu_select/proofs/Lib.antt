@@ -1,3 +1,5 @@
 pub mod Masters
 pub mod Choosing
 pub mod Lasting
+pub mod Watching
+pub mod Changes

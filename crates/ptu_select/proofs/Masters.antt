@@ -6,8 +6,8 @@ use Rattle.std.proofs.lemmas.Option.{get_or_from_slice_get, slice_get-get_or, sl
 use Rattle.std.specs.{List.{AllByRecursion, slice_get}, Option.{option_map}}
 use Rattle.ptu_record.specs.{Record.{Entry, Record, concerns, record_of}, SignalFails.{Timeouts}}
 use Rattle.ptu_record.proofs.{Others.{record_of-push}, StepParts.{record_of-append}}
-use Rattle.ptu_fails.specs.Watched.{StandsFor, Watched, is_watched}
-use Rattle.ptu_fails.proofs.Watching.{unwatched}
+use Rattle.ptu_select.specs.Watched.{StandsFor, Watched, is_watched}
+use Rattle.ptu_select.proofs.Watching.{unwatched}
 use Rattle.ptu_select.specs.{declared.master.WatchedMaster.{WatchedMaster}, Selecting.{SelectsBy}}
 
 get-set_same : (xs : List WatchedMaster) (m : ℕ) (y : WatchedMaster) → m < length xs → slice_get (set xs m y) m ≡ Some y

@@ -2,8 +2,8 @@
 use Rattle.std.specs.Prelude.{ℕ, Bool, ◌&&◌, ◌||◌, cond, List, fold, Option, Some, None, option_map, ◌==◌, nat_lt}
 use Rattle.std.specs.List.{enumerate_from}
 use Rattle.ptu_record.specs.Quality.{rank_of}
-use Rattle.ptu_fails.specs.declared.state.WatchState.{WatchState}
-use Rattle.ptu_fails.specs.WatchState.{is_eligible_state, state_of}
+use Rattle.ptu_select.specs.declared.state.WatchState.{WatchState}
+use Rattle.ptu_select.specs.WatchState.{is_eligible_state, state_of}
 use Rattle.ptu_select.specs.declared.master.WatchedMaster.{WatchedMaster}
 use Rattle.ptu_select.specs.declared.candidate.Candidate.{Candidate}
 

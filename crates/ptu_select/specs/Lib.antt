@@ -1,3 +1,5 @@
 pub mod Candidate
 pub mod Choice
 pub mod Selecting
+pub mod Watched
+pub mod WatchState

@@ -1,7 +1,7 @@
 -- Which records of a slave its selector stands for.
 use Rattle.std.specs.Prelude.{◌≡◌, ℕ, List, map, slice_get, Some}
 use Rattle.ptu_record.specs.{Record.{Record, record_of}, SignalFails.{Timeouts}}
-use Rattle.ptu_fails.specs.Watched.{StandsFor}
+use Rattle.ptu_select.specs.Watched.{StandsFor}
 use Rattle.ptu_select.specs.declared.master.WatchedMaster.{WatchedMaster}
 
 -- a selector with these timeouts and priority numbers stands for this record of its slave: each watch stands for the record of its master

@@ -1,7 +1,7 @@
 //! What holds of every selector. Each clause is a law of the definitions; the bodies are empty.
 ghost use Rattle.std.specs.{Prelude.{◌≡◌, ℕ, false, List, ◌++◌}, List.{AllByRecursion}};
 ghost use Rattle.ptu_record.specs.{Record.{Record}, SignalFails.{Timeouts}};
-ghost use Rattle.ptu_fails.specs.Watched.{is_watched};
+ghost use Rattle.ptu_select.specs.Watched.{is_watched};
 ghost use Rattle.ptu_select.specs.declared.master.WatchedMaster.{WatchedMaster};
 ghost use Rattle.ptu_select.specs.Selecting.{SelectsBy};
 

@@ -4,8 +4,14 @@
 
 mod candidate;
 mod choice;
+pub mod fails_laws;
 pub mod laws;
 mod master;
+mod moments;
 mod selector;
+mod state;
+mod watch;
 
 pub use selector::Selector;
+pub use state::WatchState;
+pub use watch::Watch;

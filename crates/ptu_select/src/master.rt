@@ -2,10 +2,10 @@
 
 ghost use Rattle.std.specs.Prelude.{◌≡◌};
 ghost use Rattle.ptu_select.specs.Candidate.{candidate_in};
-ghost use Rattle.ptu_fails.specs.WatchState.{state_of};
+ghost use Rattle.ptu_select.specs.WatchState.{state_of};
 
 use crate::candidate::Candidate;
-use ptu_fails::Watch;
+use crate::Watch;
 use ptu_units::Moment;
 
 /// A master under its watch, with its priority number.

@@ -4,12 +4,12 @@ ghost use Rattle.std.specs.Prelude.{◌≡◌, ℕ, ◌<◌, ◌≤◌, ◌^◌,
 ghost use Rattle.std.specs.Option.{ForSome};
 ghost use Rattle.ptu_record.specs.Record.{Record, record_of, Announce, Sync, Resp, Judged};
 ghost use Rattle.ptu_record.specs.{SignalFails.{Timeouts}, Selection.{selected_master}};
-ghost use Rattle.ptu_fails.specs.WatchState.{state_at};
+ghost use Rattle.ptu_select.specs.WatchState.{state_at};
 ghost use Rattle.ptu_select.specs.{Choice.{Stands}, Selecting.{SelectsBy}};
 
 use crate::choice::{Choice, choice_at};
 use crate::master::WatchedMaster;
-use ptu_fails::{Watch, WatchState};
+use crate::{Watch, WatchState};
 use ptu_units::{Moment, OutOfMemory};
 use std::alloc::Global;
 use std::marker::Model;

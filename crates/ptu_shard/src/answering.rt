@@ -8,7 +8,7 @@ ghost use Rattle.ptu_outside.specs.HandsOver.{HandsOver};
 use crate::answered::Answered;
 use crate::lease::Lease;
 use crate::sending::send_response;
-use ptu_header::Header;
+use ptu_messages::Header;
 use ptu_history::Client;
 use ptu_outside::Port;
 use ptu_profile::GmConfig;

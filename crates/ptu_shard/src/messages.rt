@@ -6,7 +6,7 @@ ghost use Rattle.ptu_messages.specs.Sent.{IsFixed, octets_sent};
 ghost use Rattle.ptu_outside.specs.HandsOver.{HandsOver, failed_in, sent_in};
 ghost use Rattle.ptu_shard.specs.Messages.{announce_of, message_of_response, message_of_turn};
 
-use ptu_header::Header;
+use ptu_messages::Header;
 use ptu_messages::{AnnounceBody, Body, Message, write_fixed};
 use ptu_outside::{Channel, Failed, Port, hand};
 use ptu_profile::GmConfig;

@@ -1,7 +1,7 @@
 //! Values for tests and examples: a client of each table of a grandmaster, and the header of a
 //! Delay_Req; and those of `ptu_profile`.
 
-use ptu_header::{Header, PortIdentity};
+use ptu_messages::{Header, PortIdentity};
 use ptu_history::Client;
 pub use ptu_profile::samples::CONFIG;
 

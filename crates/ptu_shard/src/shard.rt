@@ -23,7 +23,7 @@ use crate::rows::{Key, drop_row, find_lease, row_at, spend_answering};
 use crate::sweeping::drop_ended;
 use crate::turning::send_due;
 use indexmap::IndexMap;
-use ptu_header::Header;
+use ptu_messages::Header;
 use ptu_history::Client;
 use ptu_outside::Port;
 use ptu_profile::GmConfig;

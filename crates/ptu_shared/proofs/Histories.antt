@@ -5,7 +5,7 @@ use Rattle.std.proofs.lemmas.Bool.{and_parts, eq-eqb, eqb-true}
 use Rattle.std.proofs.lemmas.List.Elements.{All-head, All-tail, All-weaker, filter_passes}
 use Rattle.std.proofs.lemmas.List.Sorted.{All-permutation}
 use Rattle.ptu_units.specs.declared.kind.{Kind.{Kind}, Kind.TheVariants.{Announce, Sync, DelayResp}}
-use Rattle.ptu_header.specs.declared.header.Header.{Header}
+use Rattle.ptu_messages.specs.declared.header.Header.{Header}
 use Rattle.ptu_outside.specs.{declared.port.Port.{Ghosts as Ports}, Departure.{Departure}}
 use Rattle.ptu_outside.specs.{Faults.{HasNotFallen, HasRisen}, HandsOver.{HandsOver}, Telling.{TellsOn}}
 use Rattle.ptu_outside.proofs.HandsOver.{goes_on_both, hands_none, none_failed, rises_first, rises_second, sent_both, sent_none, told_both, told_none}
@@ -25,7 +25,7 @@ use Rattle.ptu_laws.proofs.{Followed.{AllMayFollow as AllFollow, may-answer}, St
 use Rattle.ptu_profile.specs.declared.grandmaster.GmConfig.{GmConfig}
 use Rattle.ptu_shard.specs.{Answered.{responses}, Messages.{departure_of, response_of}, Table.{Kept, StandsBeside, StandsFor}, Turn.{due_messages}}
 use Rattle.ptu_admit.specs.Alone.{AreDecisionsFrom, GoesOnAlone, StandsAlone}
-use Rattle.ptu_rounds.specs.Handed.{SentPart}
+use Rattle.ptu_outside.specs.Handed.{SentPart}
 use Rattle.ptu_shared.specs.{Histories.{AllMayFollow, AreMessages, HasHistory, IsMessage}, Opening.{HaveFailed, Seen, seen_of}}
 use Rattle.ptu_shared.proofs.Failing.{failed-append, failed_hands, failed_none}
 

@@ -2,7 +2,7 @@
 use Rattle.std.specs.Prelude.{◌≡◌, ℕ, ◌+◌, ◌*◌, ◌≤◌, ◌<◌, min, Ok, Err}
 use Rattle.ptu_units.specs.Log.{rate_of}
 use Rattle.ptu_history.specs.{declared.client.Client.{Client}, Verdict.{profile}}
-use Rattle.ptu_tlvs.specs.declared.tlv.Ask.{Ask}
+use Rattle.ptu_messages.specs.declared.tlv.Ask.{Ask}
 use Rattle.ptu_profile.specs.declared.grandmaster.GmConfig.{GmConfig}
 use Rattle.ptu_admit.specs.declared.verdict.Verdict.{Verdict}
 use Rattle.ptu_admit.specs.declared.verdict.Verdict.TheVariants.{Granted, Short, Outside}

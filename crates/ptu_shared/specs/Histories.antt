@@ -3,7 +3,7 @@
 use Rattle.std.specs.Prelude.{◌≡◌, ℕ, ◌+◌, ◌-◌, ◌^◌, ◌≤◌, min, false, List, [], ◌∷◌, ◌++◌, length, IsTrue}
 use Rattle.std.specs.List.{AllByRecursion}
 use Rattle.ptu_units.specs.declared.kind.{Kind.{Kind}, Kind.TheVariants.{Announce, Sync, DelayResp}}
-use Rattle.ptu_header.specs.declared.header.Header.{Header}
+use Rattle.ptu_messages.specs.declared.header.Header.{Header}
 use Rattle.ptu_outside.specs.{declared.port.Port.{Ghosts as Ports}, Departure.{Departure}}
 use Rattle.ptu_outside.specs.{Faults.{HasRisen}, Telling.{TellsOn}}
 use Rattle.ptu_history.specs.{declared.client.Client.{Client}, Client.{table_of}}
@@ -13,7 +13,7 @@ use Rattle.ptu_laws.specs.Sound.{last_sent}
 use Rattle.ptu_profile.specs.declared.grandmaster.GmConfig.{GmConfig}
 use Rattle.ptu_shard.specs.{Messages.{departure_of, response_of}, Table.{Kept}}
 use Rattle.ptu_admit.specs.Alone.{StandsAlone}
-use Rattle.ptu_rounds.specs.Handed.{SentPart}
+use Rattle.ptu_outside.specs.Handed.{SentPart}
 use Rattle.ptu_shared.specs.Opening.{HaveFailed, Seen, seen_of}
 
 -- what a record of the table has of those before it: a decision is on a client of the table, and not before a message of the kind to

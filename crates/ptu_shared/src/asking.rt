@@ -20,7 +20,7 @@ use ptu_admit::{Verdict, decide_all, decide_one};
 use ptu_history::Client;
 use ptu_outside::Port;
 use ptu_profile::GmConfig;
-use ptu_tlvs::Ask;
+use ptu_messages::Ask;
 use ptu_units::Moment;
 use std::sync::ledger::Ledger;
 

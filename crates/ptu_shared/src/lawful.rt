@@ -17,7 +17,7 @@ use crate::place::{First, Fourth, Place, Second, Third};
 use crate::rates::Rates;
 use crate::table::Table;
 use ptu_admit::{Cancelled, Resized, Verdict};
-use ptu_header::Header;
+use ptu_messages::Header;
 use ptu_history::Client;
 use ptu_outside::Port;
 use ptu_profile::GmConfig;

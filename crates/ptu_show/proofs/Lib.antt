@@ -2,3 +2,10 @@ pub mod ShowCauses
 pub mod JoinCauses
 pub mod Partners
 pub mod Relation
+pub mod Writing
+pub mod Lines
+pub mod Going
+pub mod Words
+pub mod Requests
+pub mod Commands
+pub mod Whole

@@ -4,7 +4,7 @@ use Rattle.std.specs.{List.{AllByRecursion}, Option.{unwrap_or}}
 use Rattle.std.specs.Prelude.{if◌then◌else◌, is_none, is_some}
 use Rattle.std.proofs.lemmas.Bool.{true≢false}
 use Rattle.ptu_units.specs.declared.stamp.Stamp.{Stamp}
-use Rattle.ptu_header.specs.declared.header.Header.{Header}
+use Rattle.ptu_messages.specs.declared.header.Header.{Header}
 use Rattle.ptu_messages.specs.declared.message.Body.TheVariants as bodies
 use Rattle.ptu_show.specs.declared.half.{Half.{Half}, Part.TheVariants.{Sync, FollowUp}}
 use Rattle.ptu_show.specs.{Halves.{is_other, key_of, same_key, joined_sync}, Joins.{JoinsWith, partner}}

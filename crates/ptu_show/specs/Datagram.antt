@@ -2,9 +2,9 @@
 use Rattle.std.specs.Prelude.{ℕ, ◌==◌, Bool, if◌then◌else◌, List, [], ◌++◌, codes, Result, Ok, Err}
 use Rattle.std.specs.{List.{flat_map}, Fmt.{decimal, signed_decimal}}
 use Rattle.ptu_units.specs.declared.stamp.Stamp.{Stamp}
-use Rattle.ptu_octets.specs.Number.{number_at}
-use Rattle.ptu_tlvs.specs.declared.tlv.{Ask.{Ask}, Tlv.{Tlv}}
-use Rattle.ptu_tlvs.specs.declared.tlv.Tlv.TheVariants as tlvs
+use Rattle.ptu_units.specs.Number.{number_at}
+use Rattle.ptu_messages.specs.declared.tlv.{Ask.{Ask}, Tlv.{Tlv}}
+use Rattle.ptu_messages.specs.declared.tlv.Tlv.TheVariants as tlvs
 use Rattle.ptu_messages.specs.declared.message.Body.{Body}
 use Rattle.ptu_messages.specs.declared.message.Body.TheVariants as bodies
 use Rattle.ptu_messages.specs.declared.message.Message.{Message}

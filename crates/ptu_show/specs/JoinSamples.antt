@@ -1,6 +1,6 @@
 -- Halves that were made out by hand, and which of them join.
 use Rattle.std.specs.Prelude.{◌≡◌, ℕ, [], ◌∷◌, codes, drop, slice_set, ℤ, pos, negsuc, Some, None}
-use Rattle.ptu_header.specs.declared.header.Header.{Header}
+use Rattle.ptu_messages.specs.declared.header.Header.{Header}
 use Rattle.ptu_messages.specs.declared.message.Body.TheVariants as bodies
 use Rattle.ptu_messages.specs.declared.message.Message.{Message}
 use Rattle.ptu_messages.specs.Samples.{sample_client, delay_req, grandmaster}

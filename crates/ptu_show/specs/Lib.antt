@@ -9,3 +9,6 @@ pub mod Joined
 pub mod JoinLines
 pub mod Waiting
 pub mod JoinSamples
+pub mod Generated
+pub mod Whole
+pub mod LoadSamples

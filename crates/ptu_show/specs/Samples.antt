@@ -4,7 +4,7 @@ use Rattle.hex.specs.Hex.{encode_lower}
 use Rattle.ptu_messages.specs.Samples.{announce, delay_req, delay_resp}
 use Rattle.ptu_report.specs.declared.ending.Ending.TheVariants.{Whole, Refused}
 use Rattle.ptu_script.specs.declared.cause.Cause.TheVariants.{Field, Text}
-use Rattle.ptu_tlvs.specs.declared.tlv.Tlv.TheVariants.{Request, Grant, Cancel, Ack, Other}
+use Rattle.ptu_messages.specs.declared.tlv.Tlv.TheVariants.{Request, Grant, Cancel, Ack, Other}
 use Rattle.ptu_show.specs.{Datagram.{datagram_text, tlv_text}, Shown.{shown, shown_ending}}
 
 -- each type with its own rest, and a fault in place of what does not read

@@ -1,6 +1,6 @@
 -- Which halves the halves that wait stand for.
 use Rattle.std.specs.{Prelude.{◌≡◌, ◌<◌, ◌^◌, true, List, IfSome}, HashMap.{HashMap, get}}
-use Rattle.ptu_header.specs.declared.header.Header.{Header}
+use Rattle.ptu_messages.specs.declared.header.Header.{Header}
 use Rattle.ptu_show.specs.declared.half.{Part.{Part}, Part.TheVariants.{Sync, FollowUp}}
 use Rattle.ptu_show.specs.declared.half.{Half.{Half}, HalfKey.{HalfKey}}
 use Rattle.ptu_show.specs.{Halves.{has_two_steps, same_key}, Joins.{waiting}}

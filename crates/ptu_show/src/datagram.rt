@@ -9,10 +9,10 @@ ghost use Rattle.ptu_show.specs.{Datagram.{tlv_text, type_text}, Shown.{numbered
 
 use ptu_messages::{AnnounceBody, Body, Message};
 use ptu_texts::{ClockText, IdentityText};
-use ptu_tlvs::{Ask, Tlv};
+use ptu_messages::{Ask, Tlv};
 use ptu_units::message_types::{ANNOUNCE, DELAY_REQ, DELAY_RESP, FOLLOW_UP, SIGNALING, SYNC};
 use ptu_units::{OutOfMemory, Stamp};
-use ptu_writing::{Draft, LinePart, LineText, Text};
+use ptu_lines::{Draft, LinePart, LineText, Text};
 
 // The name of a messageType, or its number.
 #[derive(Clone, Copy)]

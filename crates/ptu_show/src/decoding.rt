@@ -11,7 +11,7 @@ use crate::lines::ShowLine;
 use crate::reading::read_datagram;
 use ptu_lines::LineCause;
 use ptu_messages::{MessageFault, read_message};
-use ptu_octets::u16_at;
+use ptu_units::u16_at;
 use ptu_outside::{Sink, Source};
 use ptu_report::{Reporter, Texts, run};
 use ptu_script::Cause;

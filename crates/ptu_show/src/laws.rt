@@ -2,7 +2,7 @@
 
 ghost use Rattle.std.specs.Prelude.{◌≡◌, ◌↔◌, ◌+◌, ◌^◌, List, Some, pos};
 ghost use Rattle.ptu_units.specs.declared.stamp.Stamp.{Stamp};
-ghost use Rattle.ptu_header.specs.declared.header.Header.{Header};
+ghost use Rattle.ptu_messages.specs.declared.header.Header.{Header};
 ghost use Rattle.ptu_messages.specs.declared.message.Body.TheVariants as bodies;
 ghost use Rattle.ptu_show.specs.declared.half.Half.{Half};
 ghost use Rattle.ptu_show.specs.{declared.half.Part.TheVariants.{Sync, FollowUp}, Halves.{joined_sync}};

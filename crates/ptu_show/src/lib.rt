@@ -5,6 +5,7 @@
 mod datagram;
 mod decoding;
 mod fault;
+mod generating;
 mod half;
 mod halving;
 mod join_lines;
@@ -16,8 +17,10 @@ mod waiting;
 
 pub use decoding::show;
 pub use fault::{JoinFault, LabFault};
+pub use generating::{generate, put, sample_loads, whole_loads};
 pub use joining::join;
 pub use laws::{joining_is_relation, sample_joins, sample_lines, two_steps_are_undone};
 pub use ptu_lines::LineCause;
 pub use ptu_script::Cause;
+pub use crate::LabFault;
 pub use reading::read_datagram;

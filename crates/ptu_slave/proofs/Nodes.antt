@@ -1,7 +1,7 @@
 -- What a slave sends and tells of a datagram is what the node's functions say.
 use Rattle.std.proofs.Common.{◌≡◌, ℕ, List, refl, map, ap, Ok, Err}
 use Rattle.std.specs.Prelude.{Result}
-use Rattle.ptu_header.specs.declared.header.Header.{Header}
+use Rattle.ptu_messages.specs.declared.header.Header.{Header}
 use Rattle.ptu_messages.specs.declared.message.Body.{Body}
 use Rattle.ptu_messages.specs.declared.message.Body.TheVariants as body
 use Rattle.ptu_messages.specs.declared.message.Message.{Message}

@@ -10,7 +10,7 @@ use Rattle.ptu_record.proofs.ListLaws.{last-filter_map}
 use Rattle.ptu_record.proofs.Requests.{delay_req_number-push, signaling_number-push}
 use Rattle.ptu_requester.specs.Requester.{Kept as Negotiated, StandsFor, is_negotiation}
 use Rattle.ptu_requester.proofs.Silence.{stands_silent}
-use Rattle.ptu_fails.specs.Watched.{is_watched}
+use Rattle.ptu_select.specs.Watched.{is_watched}
 use Rattle.ptu_select.proofs.Masters.{unwatched_by}
 use Rattle.ptu_judges.specs.Held as judge
 use Rattle.ptu_judges.specs.Held.{Held}

@@ -4,15 +4,15 @@ use Rattle.std.proofs.lemmas.List.{append-nil}
 use Rattle.std.specs.List.{AllByRecursion, cons_option, filter_map, flat_map, list_any}
 use Rattle.std.specs.Option.{option_map}
 use Rattle.ptu_units.specs.declared.kind.Kind.{Kind}
-use Rattle.ptu_tlvs.specs.declared.tlv.Tlv.{Tlv}
-use Rattle.ptu_tlvs.specs.declared.tlv.Tlv.TheVariants as tlv
+use Rattle.ptu_messages.specs.declared.tlv.Tlv.{Tlv}
+use Rattle.ptu_messages.specs.declared.tlv.Tlv.TheVariants as tlv
 use Rattle.ptu_record.specs.declared.{rule.Rule.{Rule}, wants.Wants.{Wants}}
 use Rattle.ptu_record.specs.Record.{Entry, Record, Cancelled, Denied, Event, Granted}
 use Rattle.ptu_record.specs.Tick.{is_stop, sending_entries}
 use Rattle.ptu_record.specs.Step as step
 use Rattle.ptu_record.specs.Step.{SlaveEvent, SlaveSetup, TakeSignaling, cancel_code, entries_by, grant_entry, one_reply, or_event, wanted_kind}
 use Rattle.ptu_record.proofs.StepParts.{all_of, signals_all}
-use Rattle.ptu_fails.specs.Watched.{is_watched}
+use Rattle.ptu_select.specs.Watched.{is_watched}
 use Rattle.ptu_judges.specs.Held.{Held}
 use Rattle.ptu_slave_messages.specs.declared.signal.Signal.{Signal}
 use Rattle.ptu_slave_messages.specs.declared.signal.Signal.TheVariants.{Denial, Grant}

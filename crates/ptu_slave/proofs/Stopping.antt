@@ -11,7 +11,7 @@ use Rattle.ptu_record.specs.Grants.{grant_change, is_live, is_live_at, live_kind
 use Rattle.ptu_record.specs.Tick.{Cancels, Sending, cancels_to, is_stop, one_signaling, sending_entries, signaling_number}
 use Rattle.ptu_record.specs.Step.{Stop, entries_by, or_event, sendings, step_by}
 use Rattle.ptu_record.proofs.StepParts.{record_of-append}
-use Rattle.ptu_fails.specs.Watched.{is_watched}
+use Rattle.ptu_select.specs.Watched.{is_watched}
 use Rattle.ptu_requester.specs.Requester.{all_cancels}
 use Rattle.ptu_requester.proofs.Stops.{stop_lifted}
 use Rattle.ptu_judges.specs.Held.{Held}

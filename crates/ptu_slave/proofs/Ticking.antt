@@ -7,7 +7,7 @@ use Rattle.ptu_record.specs.{Record.{Entry, Record, Event}, Judges.{AreAssessmen
 use Rattle.ptu_record.specs.Tick.{Sending, is_stop, requests_to, sending_entries}
 use Rattle.ptu_record.specs.Step.{Tick, entries_by, judged_entries, or_event, sendings}
 use Rattle.ptu_record.proofs.StepParts.{judged_all}
-use Rattle.ptu_fails.specs.Watched.{is_watched}
+use Rattle.ptu_select.specs.Watched.{is_watched}
 use Rattle.ptu_judges.specs.Held.{Held}
 use Rattle.ptu_slave.specs.{Kept.{Kept}, Parts.{AllJudged, Ticks}}
 use Rattle.ptu_slave.specs.Standing.{Asks, Judge, Selects, StandsFor, StepsBy, setup_of}

@@ -3,7 +3,7 @@
 ghost use Rattle.std.specs.Prelude.{◌≡◌, ℕ, ◌<◌, max, List, map, filter_map, length, Option};
 ghost use Rattle.ptu_record.specs.{declared.rule.Rule.{Rule}, Record.{Record}};
 ghost use Rattle.ptu_record.specs.Step.{TakeAnnounce, TakeFollowUp, TakeDelayResp, TakeSignaling, ReplaceJudge};
-ghost use Rattle.ptu_tlvs.specs.declared.tlv.Tlv.{Tlv};
+ghost use Rattle.ptu_messages.specs.declared.tlv.Tlv.{Tlv};
 ghost use Rattle.ptu_judges.specs.Held.{Held, IsFresh};
 ghost use Rattle.ptu_judges.specs.Calls.{OfOne, Then, WasAsked};
 ghost use Rattle.ptu_slave_messages.specs.Heard.{signals_of, said_by};

@@ -10,7 +10,7 @@ use Rattle.ptu_outside.proofs.Putting.{HasPutPart-append}
 use Rattle.ptu_judges.specs.Held.{Held}
 use Rattle.ptu_config.specs.{declared.settings.SlaveSettings.{SlaveSettings}, Rounds.{all_slave_rounds}}
 use Rattle.ptu_slave.specs.Kept.{Kept}
-use Rattle.ptu_rounds.specs.{Handed.{FailuresAre}, Ports.{HaveNotRisen, HaveRisenBy, HaveRisenJust, ports_of}}
+use Rattle.ptu_outside.specs.{Handed.{FailuresAre}, Ports.{HaveNotRisen, HaveRisenBy, HaveRisenJust, ports_of}}
 use Rattle.ptu_slave_daemon.specs.declared.line.SlaveLine.{SlaveLine}
 use Rattle.ptu_slave_daemon.specs.Happenings.{Selection, happenings}
 use Rattle.ptu_slave_daemon.specs.{Lines.{changes, slave_line_text, output, slave_texts}, Opening.{node_of}}

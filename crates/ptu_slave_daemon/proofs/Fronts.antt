@@ -5,7 +5,7 @@ use Rattle.std.specs.Prelude.{IsErrOf, IsSome, OnErr, Result, Ok, Err}
 use Rattle.ptu_outside.specs.{declared.arrival.Arrival.{Arrival}, Faults.{HasRisen}}
 use Rattle.ptu_record.specs.Record.{Record}
 use Rattle.ptu_slave_messages.specs.Node.{Node}
-use Rattle.ptu_rounds.specs.Rounds.{in_rounds, moments_after, timed}
+use Rattle.ptu_outside.specs.Rounds.{in_rounds, moments_after, timed}
 use Rattle.ptu_slave_daemon.specs.declared.line.SlaveLine.TheVariants.{Closing}
 use Rattle.ptu_slave_daemon.specs.Happenings.{SlaveHappening, Selection, Stops, happenings_of_rounds, happenings, record_by_happenings, slave_round_of, selections_in, sent_by_happenings}
 use Rattle.ptu_slave_daemon.specs.Lines.{changes, output, output_from, selected_line}

@@ -2,9 +2,9 @@
 use Rattle.std.proofs.Common.{◌≡◌, ◌∙◌, ◌⊎◌, inl, inr, ℕ, zero, suc, ◌+◌, ◌*◌, ◌≤◌, ◌++◌, List, [], ◌∷◌, Bool, length, map, take, drop, refl, sym, ap, ap₂, subst, arith, add-zero, append_assoc, Option, Some}
 use Rattle.std.proofs.lemmas.List.{append-nil, drop-drop}
 use Rattle.ptu_outside.specs.{declared.arrival.Arrival.{Arrival}, Faults.{HasNotFallen, HasRisen}}
-use Rattle.ptu_rounds.specs.Rounds.{in_rounds, left_after, taken_in}
-use Rattle.ptu_rounds.specs.Taken.{Gave, Round, event_of, general_of}
-use Rattle.ptu_rounds.proofs.Taken.{event_of-push, general_of-push, have_taken-none, have_taken-push, in_these-push}
+use Rattle.ptu_outside.specs.Rounds.{in_rounds, left_after, taken_in}
+use Rattle.ptu_outside.specs.Taken.{Gave, Round, event_of, general_of}
+use Rattle.ptu_outside.proofs.Taken.{event_of-push, general_of-push, have_taken-none, have_taken-push, in_these-push}
 use Rattle.ptu_outside.proofs.Telling.{IfTold-refl}
 use Rattle.ptu_record.specs.Record.{Record}
 use Rattle.ptu_slave_messages.specs.Node.{Node}

@@ -2,7 +2,7 @@
 use Rattle.std.proofs.Common.{◌≡◌, ◌∙◌, ℕ, ◌+◌, ◌++◌, Bool, List, [], ◌∷◌, refl, sym, ap, ap₂, subst, append_assoc}
 use Rattle.ptu_record.specs.Record.{Record}
 use Rattle.ptu_slave_messages.specs.Node.{Node}
-use Rattle.ptu_rounds.proofs.Taken.{happened-append}
+use Rattle.ptu_outside.proofs.Taken.{happened-append}
 use Rattle.ptu_slave_daemon.specs.Happenings.{SlaveHappening, Selection, deed_at, entered_at, record_by_happenings, selection_at, selections_in, sent_by_happenings}
 use Rattle.ptu_slave_daemon.specs.Running.{AreTimed, HasFailed, IsAt, PortDid, SlaveRan, View}
 use Rattle.ptu_slave_daemon.proofs.{Ports.{port_append, port_still}, Times.{timed_more, timed_none}}

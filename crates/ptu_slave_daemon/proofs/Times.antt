@@ -2,7 +2,7 @@
 use Rattle.std.proofs.Common.{◌≡◌, ◌≢◌, ◌∙◌, ℕ, zero, suc, ◌+◌, ◌++◌, List, [], ◌∷◌, length, refl, sym, ap, ap₂, arith, length-append, Option, Some, None}
 use Rattle.std.specs.Prelude.{option_map}
 use Rattle.ptu_outside.specs.{Clocks.{after_first}, Telling.{IfTold, IsFirstTold}}
-use Rattle.ptu_rounds.specs.Rounds.{moments_after, next_of, timed}
+use Rattle.ptu_outside.specs.Rounds.{moments_after, next_of, timed}
 use Rattle.ptu_slave_daemon.specs.{Happenings.{SlaveHappening}, Running.{AreTimed}}
 
 pub moments_after-zero : (times : List ℕ) → moments_after 0 times ≡ times

@@ -4,8 +4,8 @@ use Rattle.ptu_outside.specs.declared.{opened.Opened.{Opened}, failed.Failed.{Fa
 use Rattle.ptu_outside.specs.{Faults.{HasRisen}, Telling.{IfTold}}
 use Rattle.ptu_slave_daemon.specs.declared.halt.Halt.{Halt}
 use Rattle.ptu_slave_daemon.specs.declared.halt.Halt.TheVariants as halts
-use Rattle.ptu_rounds.specs.declared.fault.DaemonFault.{DaemonFault}
-use Rattle.ptu_rounds.specs.declared.fault.DaemonFault.TheVariants.{Open, Write}
+use Rattle.ptu_outside.specs.declared.fault.DaemonFault.{DaemonFault}
+use Rattle.ptu_outside.specs.declared.fault.DaemonFault.TheVariants.{Open, Write}
 
 -- the count of faults of the host rose exactly where it opened nothing
 abbrev pub CountsOpen : {A : Type 0} → Result A DaemonFault → ℕ → ℕ → Type 0

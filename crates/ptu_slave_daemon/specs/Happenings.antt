@@ -4,7 +4,7 @@ use Rattle.ptu_outside.specs.{declared.arrival.Arrival.{Arrival}, Departure.{Dep
 use Rattle.ptu_record.specs.{Record.{Record}, Step.{Stop, Tick}}
 use Rattle.ptu_profile.specs.Slave.{address_of}
 use Rattle.ptu_slave_messages.specs.Node.{Deed, Node, datagram_deed, deed, node_selection}
-use Rattle.ptu_rounds.specs.{Rounds.{in_rounds, taken_in, timed}, Taken.{Round, in_these}}
+use Rattle.ptu_outside.specs.{Rounds.{in_rounds, taken_in, timed}, Taken.{Round, in_these}}
 
 -- what may happen to it, at a moment of its clock
 pub data SlaveHappening : Type 0 where

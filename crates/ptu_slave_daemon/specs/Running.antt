@@ -8,8 +8,8 @@ use Rattle.ptu_record.specs.Record.{Record}
 use Rattle.ptu_judges.specs.Held.{Held}
 use Rattle.ptu_slave_messages.specs.Node.{Node}
 use Rattle.ptu_slave.specs.{Kept.{Kept}, Seen.{Seen}, Standing.{StandsFor}}
-use Rattle.ptu_rounds.specs.{Handed.{SentPart}, Rounds.{in_rounds, left_after, moments_after, timed}}
-use Rattle.ptu_rounds.specs.Taken.{Gave, HappenedAt, HaveTaken, Round, event_of, general_of}
+use Rattle.ptu_outside.specs.{Handed.{SentPart}, Rounds.{in_rounds, left_after, moments_after, timed}}
+use Rattle.ptu_outside.specs.Taken.{Gave, HappenedAt, HaveTaken, Round, event_of, general_of}
 use Rattle.ptu_slave_daemon.specs.declared.{counts.Counts.{Counts}, line.SlaveLine.{SlaveLine}}
 use Rattle.ptu_slave_daemon.specs.Happenings.{SlaveHappening, Stops, happenings_of_rounds, arrive, Selection, happenings, record_by_happenings, slave_round_of, selections_in, sent_by_happenings}
 use Rattle.ptu_slave_daemon.specs.Lines.{output_from}

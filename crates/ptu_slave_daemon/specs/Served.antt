@@ -5,8 +5,8 @@ use Rattle.ptu_outside.specs.declared.{opened.Opened.{Opened}, port.Port.{Ghosts
 use Rattle.ptu_outside.specs.{Departure.{Departure}, Handing.{HasPut, HasPutPart}}
 use Rattle.ptu_outside.specs.Telling.{IfTold, append_told}
 use Rattle.ptu_config.specs.{declared.settings.SlaveSettings.{SlaveSettings}, Rounds.{all_slave_rounds}}
-use Rattle.ptu_rounds.specs.{Handed.{FailuresAre, SentPart}, Ports.{HaveNotRisen, ports_of}}
-use Rattle.ptu_rounds.specs.Taken.{Gave, HappenedAt, HaveTaken, Round, event_of, general_of}
+use Rattle.ptu_outside.specs.{Handed.{FailuresAre, SentPart}, Ports.{HaveNotRisen, ports_of}}
+use Rattle.ptu_outside.specs.Taken.{Gave, HappenedAt, HaveTaken, Round, event_of, general_of}
 use Rattle.ptu_slave_daemon.specs.Happenings.{SlaveHappening, Selection, Stops, happenings_of_rounds, happenings, selections_in, sent_by_happenings}
 use Rattle.ptu_slave_daemon.specs.{Lines.{changes, output, slave_output_of, slave_texts}, Opening.{node_of}}
 use Rattle.ptu_slave_daemon.specs.Running.{AreTimed}

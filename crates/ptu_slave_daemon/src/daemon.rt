@@ -4,7 +4,7 @@ ghost use Rattle.std.specs.Prelude.{◌≡◌, ℕ, List, length, map, IfOk, OnO
 ghost use Rattle.ptu_outside.specs.{declared.opened.Opened.{Opened}, Handing.{HasPutPart}};
 ghost use Rattle.ptu_config.specs.{Limits.{IsSlaveInRange}, Rounds.{all_slave_rounds}};
 ghost use Rattle.ptu_judges.specs.Boxes.{IsFreshStock};
-ghost use Rattle.ptu_rounds.specs.Opening.{OpenedAt};
+ghost use Rattle.ptu_outside.specs.Opening.{OpenedAt};
 ghost use Rattle.ptu_slave_daemon.specs.Answers.{CountsOpen, CountsWrite, FailsWith, WasGivenBack, WasOpened};
 ghost use Rattle.ptu_slave_daemon.specs.{Happenings.{Selection}, Lines.{output, slave_texts}};
 ghost use Rattle.ptu_slave_daemon.specs.Opening.{are_enough};
@@ -16,7 +16,7 @@ use crate::rounds::run;
 use ptu_config::SlaveSettings;
 use ptu_judges::Stock;
 use ptu_outside::{Clock, Failed, Host, Opened, Port, Sink};
-use ptu_rounds::DaemonFault;
+use ptu_outside::DaemonFault;
 use ptu_units::OutOfMemory;
 use std::alloc::Global;
 

@@ -4,9 +4,9 @@ use Rattle.std.proofs.lemmas.List.Elements.{All-from_recursion}
 use Rattle.std.specs.List.{AllByRecursion, filter_map, slice_index, slice_range}
 use Rattle.ptu_units.specs.declared.kind.{Kind.{Kind}, Kind.TheVariants.{Announce, Sync, DelayResp}}
 use Rattle.ptu_units.specs.Kind.{code_of}
-use Rattle.ptu_tlvs.specs.declared.tlv.Tlv.{Tlv}
-use Rattle.ptu_tlvs.specs.declared.tlv.Tlv.TheVariants as tlv
-use Rattle.ptu_tlvs.specs.{Sent.{IsSendable}, Tlv.{SpellsTlv}}
+use Rattle.ptu_messages.specs.declared.tlv.Tlv.{Tlv}
+use Rattle.ptu_messages.specs.declared.tlv.Tlv.TheVariants as tlv
+use Rattle.ptu_messages.specs.{TlvsSent.{IsSendable}, Tlv.{SpellsTlv}}
 use Rattle.ptu_messages.specs.declared.message.Body.{Body}
 use Rattle.ptu_messages.specs.declared.message.Body.TheVariants as body
 use Rattle.ptu_messages.specs.declared.message.Message.{Message}

@@ -2,7 +2,7 @@
 use Rattle.std.proofs.Common.{◌≡◌, ◌≢◌, ℕ, ◌<◌, Bool, true, false, List, length, Option, Some, None, Ok, Err, refl, ap, subst}
 use Rattle.std.proofs.lemmas.List.Quantifiers.{position-Some}
 use Rattle.std.specs.{List.{AllByRecursion}, Prelude.{Result, if◌then◌else◌, ◌==◌, not}}
-use Rattle.ptu_header.specs.declared.header.Header.{Header}
+use Rattle.ptu_messages.specs.declared.header.Header.{Header}
 use Rattle.ptu_messages.specs.declared.{fault.MessageFault.{MessageFault}, message.Body.{Body}}
 use Rattle.ptu_messages.specs.declared.message.Body.TheVariants as body
 use Rattle.ptu_messages.specs.{declared.message.Message.{Message}, Reading.{message_in}}

@@ -1,9 +1,9 @@
 -- What a message that a slave takes is to it: an event, and what its caller is told of it (IEEE 1588-2019 clauses 13 and 16.1).
 use Rattle.std.specs.Prelude.{ℕ, ⊤, cond, ◌==◌, ◌≤◌, List, [], ◌∷◌, All, length, map, filter_map, Option, Some, None, option_map, Result, Ok, Err}
 use Rattle.ptu_units.specs.declared.kind.Kind.{Kind}
-use Rattle.ptu_tlvs.specs.declared.tlv.Tlv.{Tlv}
-use Rattle.ptu_tlvs.specs.declared.tlv.Tlv.TheVariants as tlv
-use Rattle.ptu_tlvs.specs.Sent.{IsSendable}
+use Rattle.ptu_messages.specs.declared.tlv.Tlv.{Tlv}
+use Rattle.ptu_messages.specs.declared.tlv.Tlv.TheVariants as tlv
+use Rattle.ptu_messages.specs.TlvsSent.{IsSendable}
 use Rattle.ptu_messages.specs.declared.message.Body.{Body}
 use Rattle.ptu_messages.specs.declared.message.Body.TheVariants as body
 use Rattle.ptu_messages.specs.declared.message.Message.{Message}

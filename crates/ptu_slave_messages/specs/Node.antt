@@ -1,7 +1,7 @@
 -- A slave node as a function: what each event makes of its record, and what it sends. Where each judge has a rule there is
 -- one step, so a record and what the node was handed decide all that it does.
 use Rattle.std.specs.Prelude.{ℕ, List, [], map, Option, Result, Ok, Err}
-use Rattle.ptu_header.specs.declared.header.PortIdentity.{PortIdentity}
+use Rattle.ptu_messages.specs.declared.header.PortIdentity.{PortIdentity}
 use Rattle.ptu_messages.specs.declared.message.Message.{Message}
 use Rattle.ptu_outside.specs.Departure.{Departure}
 use Rattle.ptu_record.specs.{declared.rule.Rule.{Rule}, Record.{Record, event_moment}}

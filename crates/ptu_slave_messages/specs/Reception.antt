@@ -1,6 +1,6 @@
 -- Which datagrams a slave takes, and why it ignores the others. The order of the reasons is this project's own choice.
 use Rattle.std.specs.Prelude.{ℕ, Bool, true, false, not, ◌&&◌, ◌||◌, ◌==◌, if◌then◌else◌, List, Option, Some, None, Result, Ok, Err}
-use Rattle.ptu_header.specs.declared.header.PortIdentity.{PortIdentity}
+use Rattle.ptu_messages.specs.declared.header.PortIdentity.{PortIdentity}
 use Rattle.ptu_messages.specs.declared.message.Body.{Body}
 use Rattle.ptu_messages.specs.declared.message.Body.TheVariants.{DelayReq, DelayResp, Signaling, Ignored}
 use Rattle.ptu_messages.specs.{declared.message.Message.{Message}, Reading.{message_in}}

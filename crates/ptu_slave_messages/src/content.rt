@@ -1,7 +1,7 @@
 //! What a slave keeps of a message that it accepts.
 
 use crate::signal::SignalList;
-use ptu_header::PortIdentity;
+use ptu_messages::PortIdentity;
 use ptu_messages::TlvList;
 
 /// What a slave needs of a message that it takes.

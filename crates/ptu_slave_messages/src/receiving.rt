@@ -14,7 +14,7 @@ use crate::sorting::sender;
 use ptu_messages::{Body, Message, MessageFault, TlvList, read_message};
 use ptu_profile::{Master, SlaveConfig};
 use ptu_record::Wants;
-use ptu_tlvs::Tlv;
+use ptu_messages::Tlv;
 use ptu_units::{Kind, OutOfMemory};
 use std::alloc::{AllocError, Global};
 

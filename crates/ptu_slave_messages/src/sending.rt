@@ -1,23 +1,23 @@
 //! What a slave sends, as it is handed to a port.
 
 ghost use Rattle.std.specs.Prelude.{◌≡◌, ◌+◌, ◌≤◌, ◌∷◌, [], ℕ, List, map, length, All, option_map, option_to_list};
-ghost use Rattle.ptu_header.specs.declared.header.PortIdentity.{PortIdentity};
+ghost use Rattle.ptu_messages.specs.declared.header.PortIdentity.{PortIdentity};
 ghost use Rattle.ptu_messages.specs.Sent.{octets_sent, signaling};
 ghost use Rattle.ptu_outside.specs.{HandsOver.{HandsOver}, Replies.{reply_failed, reply_sent}};
 ghost use Rattle.ptu_record.specs.Step.{one_reply};
 ghost use Rattle.ptu_record.specs.Tick.{Requests, Cancels, DelayReq, one_signaling};
-ghost use Rattle.ptu_tlvs.specs.{Sent.{IsSendable}, declared.tlv.Tlv.TheVariants.{Ack}};
+ghost use Rattle.ptu_messages.specs.{TlvsSent.{IsSendable}, declared.tlv.Tlv.TheVariants.{Ack}};
 ghost use Rattle.ptu_slave_messages.specs.Sending.{all_ones, tick_plan, departure_to, stop_plan, kinds_in};
 ghost use Rattle.ptu_profile.specs.Slave.{slave_header};
 
 use crate::kinds::Kinds;
 use crate::plan::{StopPlan, TickPlan};
 use crate::signaling::{ALL_ONES, delay_req, put_cancels, put_requests};
-use ptu_header::PortIdentity;
+use ptu_messages::PortIdentity;
 use ptu_messages::{write_fixed, write_signaling};
 use ptu_outside::{Channel, Port, Reply, Sends, hand};
 use ptu_profile::SlaveConfig;
-use ptu_tlvs::Tlv;
+use ptu_messages::Tlv;
 use ptu_units::message_types::SIGNALING;
 use ptu_units::sizes::LONGEST_SIGNALING;
 

@@ -1,9 +1,9 @@
 -- How a fault of a datagram is written in lines of output: a word for it, and its numbers in the order of their names.
 use Rattle.std.specs.{Prelude.{ℕ, List, ◌++◌, codes}, Fmt.{decimal}}
-use Rattle.ptu_header.specs.declared.fault.HeaderFault.{HeaderFault}
-use Rattle.ptu_header.specs.declared.fault.HeaderFault.TheVariants as headers
-use Rattle.ptu_tlvs.specs.declared.fault.TlvFault.{TlvFault}
-use Rattle.ptu_tlvs.specs.declared.fault.TlvFault.TheVariants as tlvs
+use Rattle.ptu_messages.specs.declared.header_fault.HeaderFault.{HeaderFault}
+use Rattle.ptu_messages.specs.declared.header_fault.HeaderFault.TheVariants as headers
+use Rattle.ptu_messages.specs.declared.tlvs_fault.TlvFault.{TlvFault}
+use Rattle.ptu_messages.specs.declared.tlvs_fault.TlvFault.TheVariants as tlvs
 use Rattle.ptu_messages.specs.declared.fault.MessageFault.{MessageFault}
 use Rattle.ptu_messages.specs.declared.fault.MessageFault.TheVariants as messages
 

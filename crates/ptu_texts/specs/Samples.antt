@@ -1,8 +1,8 @@
 -- Values that were made out by hand, and how they are written.
 use Rattle.std.specs.Prelude.{◌≡◌, codes}
 use Rattle.ptu_units.specs.declared.kind.Kind.TheVariants.{Announce, Sync, DelayResp}
-use Rattle.ptu_header.specs.declared.fault.HeaderFault.TheVariants as headers
-use Rattle.ptu_tlvs.specs.declared.fault.TlvFault.TheVariants as tlvs
+use Rattle.ptu_messages.specs.declared.header_fault.HeaderFault.TheVariants as headers
+use Rattle.ptu_messages.specs.declared.tlvs_fault.TlvFault.TheVariants as tlvs
 use Rattle.ptu_messages.specs.declared.fault.MessageFault.TheVariants as messages
 use Rattle.ptu_texts.specs.Texts.{address_text, clock_text, identity_text, kind_text}
 use Rattle.ptu_texts.specs.Faults.{fault_text}

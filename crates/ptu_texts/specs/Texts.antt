@@ -2,8 +2,8 @@
 use Rattle.std.specs.{Prelude.{ℕ, ◌/◌, ◌%◌, ◌^◌, List, ◌++◌, codes}, Fmt.{decimal}}
 use Rattle.hex.specs.Hex.{encode_lower}
 use Rattle.ptu_units.specs.declared.kind.{Kind.{Kind}, Kind.TheVariants.{Announce, Sync, DelayResp}}
-use Rattle.ptu_octets.specs.Number.{octets_of}
-use Rattle.ptu_header.specs.declared.header.PortIdentity.{PortIdentity}
+use Rattle.ptu_units.specs.Number.{octets_of}
+use Rattle.ptu_messages.specs.declared.header.PortIdentity.{PortIdentity}
 
 -- an IPv4 address in dotted decimal, its highest octet first
 abbrev pub address_text : ℕ → List ℕ

@@ -4,7 +4,7 @@ ghost use Rattle.std.specs.Prelude.{◌≡◌, ◌++◌, OnOk};
 ghost use Rattle.hex.specs.Hex.{encode_lower};
 
 use ptu_units::OutOfMemory;
-use ptu_writing::{Draft, Text};
+use ptu_lines::{Draft, Text};
 
 /// Octets, as two hexadecimal digits in lower case each.
 #[derive(Clone, Copy)]

@@ -1,1 +1,3 @@
 mod Tables
+pub mod Numbers
+pub mod Signs

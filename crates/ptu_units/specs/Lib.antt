@@ -2,3 +2,5 @@ pub mod Kind
 pub mod Log
 pub mod Counts
 pub mod Limits
+pub mod Number
+pub mod Samples

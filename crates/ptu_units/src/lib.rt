@@ -2,6 +2,7 @@
 #![tactic(auto)]
 
 mod kind;
+mod laws;
 mod leases;
 mod listed;
 mod log;
@@ -10,12 +11,15 @@ pub mod message_types;
 mod moment;
 mod nodes;
 mod numbers;
+mod reading;
 pub mod sizes;
 mod stamp;
 mod timeouts;
 pub mod timescale;
+mod writing;
 
 pub use kind::Kind;
+pub use laws::{sample_numbers, twos_complement, written_is_read};
 pub use leases::{Capacity, GrantSeconds};
 pub use listed::Listed;
 pub use log::{AnnounceLog, Log, period, rate};
@@ -23,5 +27,7 @@ pub use memory::OutOfMemory;
 pub use moment::Moment;
 pub use nodes::{Epoch, Senders};
 pub use numbers::{Domain, PortNumber, UdpPortNumber};
+pub use reading::{high_nibble, i16_at, i64_at, low_nibble, u16_at, u32_at, u48_at, u64_at};
 pub use stamp::Stamp;
 pub use timeouts::{ReceiptTimeout, WaitToRestore};
+pub use writing::u48_octets;

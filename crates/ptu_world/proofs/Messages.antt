@@ -5,8 +5,8 @@ use Rattle.std.proofs.lemmas.List.Elements.{Contains-get_or, filter_map-append}
 use Rattle.ptu_units.specs.declared.kind.Kind.{Kind}
 use Rattle.ptu_units.specs.declared.kind.Kind.TheVariants as kinds
 use Rattle.ptu_units.specs.Kind.{code_of, kind_of}
-use Rattle.ptu_octets.specs.Number.{octets_of}
-use Rattle.ptu_header.specs.declared.header.Header.{Header}
+use Rattle.ptu_units.specs.Number.{octets_of}
+use Rattle.ptu_messages.specs.declared.header.Header.{Header}
 use Rattle.ptu_messages.specs.Sent.{octets_sent, sent_stamp}
 use Rattle.ptu_outside.specs.Departure.{Departure}
 use Rattle.ptu_history.specs.{declared.client.Client.{Client}, Client.{same_lease, table_of}}

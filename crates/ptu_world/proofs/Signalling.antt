@@ -3,8 +3,8 @@ use Rattle.std.proofs.Common.{◌≡◌, ◌≢◌, ◌∙◌, ℕ, suc, ◌+◌
 use Rattle.std.specs.List.{All}
 use Rattle.ptu_units.specs.declared.kind.Kind.{Kind}
 use Rattle.ptu_units.specs.declared.kind.Kind.TheVariants as kinds
-use Rattle.ptu_header.specs.declared.header.Header.{Header}
-use Rattle.ptu_tlvs.specs.declared.tlv.Tlv.{Tlv}
+use Rattle.ptu_messages.specs.declared.header.Header.{Header}
+use Rattle.ptu_messages.specs.declared.tlv.Tlv.{Tlv}
 use Rattle.ptu_messages.specs.Sent.{octets_sent}
 use Rattle.ptu_outside.specs.Departure.{Departure}
 use Rattle.ptu_history.specs.{declared.client.Client.{Client}, Core.{core_moment}}

@@ -1,9 +1,9 @@
 -- What a grandmaster of a script does.
 use Rattle.std.specs.Prelude.{ℕ, Bool, true, false, List, [], ◌∷◌, map, Option, Some, None, unwrap_or, Result, Ok, Err}
 use Rattle.ptu_units.specs.{declared.kind.Kind.{Kind}, Kind.{kind_of}}
-use Rattle.ptu_tlvs.specs.declared.tlv.Ask.{Ask}
+use Rattle.ptu_messages.specs.declared.tlv.Ask.{Ask}
 use Rattle.ptu_outside.specs.Departure.{Departure}
-use Rattle.ptu_header.specs.declared.header.Header.{Header}
+use Rattle.ptu_messages.specs.declared.header.Header.{Header}
 use Rattle.ptu_history.specs.{Counts.{counts}, Core.{core_moment, history_after}}
 use Rattle.ptu_history.specs.Events as events
 use Rattle.ptu_history.specs.{Events.{Answer, Event}, Live.{Grant}, Shedding.{shed_grants}}

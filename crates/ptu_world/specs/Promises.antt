@@ -4,9 +4,9 @@ use Rattle.std.specs.Prelude.{◌≡◌, ◌↔◌, ℕ, ◌+◌, ◌/◌, ◌%�
 use Rattle.std.specs.List.{cons_option}
 use Rattle.ptu_units.specs.declared.kind.{Kind.{Kind}, Kind.TheVariants.{DelayResp}}
 use Rattle.ptu_units.specs.{Kind.{code_of}, Log.{rate_of}}
-use Rattle.ptu_octets.specs.Number.{octets_of}
-use Rattle.ptu_header.specs.{declared.header.Header.{Header}, Sent.{sent_identity}}
-use Rattle.ptu_tlvs.specs.declared.tlv.{Ask.{Ask}, Tlv.{Tlv}}
+use Rattle.ptu_units.specs.Number.{octets_of}
+use Rattle.ptu_messages.specs.{declared.header.Header.{Header}, HeaderSent.{sent_identity}}
+use Rattle.ptu_messages.specs.declared.tlv.{Ask.{Ask}, Tlv.{Tlv}}
 use Rattle.ptu_messages.specs.Sent.{sent_stamp}
 use Rattle.ptu_history.specs.{declared.client.Client.{Client}, Core.{core_history, history_after}}
 use Rattle.ptu_history.specs.{Events.{Event}}

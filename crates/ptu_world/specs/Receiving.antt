@@ -1,9 +1,9 @@
 -- What each event makes of a slave: the entries that its record gets, and what the slave sends (IEEE 1588-2019 clauses 13 and
 -- 16.1; that ticks, the stop, flags and judges are events is the project's own choice).
 use Rattle.std.specs.Prelude.{◌≡◌, ℕ, Bool, true, false, ⊤, ◌==◌, if◌then◌else◌, filter, filter_map, [], ◌∷◌, ◌++◌, map, Option, Some, None, option_map, Ok}
-use Rattle.ptu_header.specs.declared.header.PortIdentity.{PortIdentity}
-use Rattle.ptu_tlvs.specs.declared.tlv.Tlv.{Tlv}
-use Rattle.ptu_tlvs.specs.declared.tlv.Tlv.TheVariants as tlvs
+use Rattle.ptu_messages.specs.declared.header.PortIdentity.{PortIdentity}
+use Rattle.ptu_messages.specs.declared.tlv.Tlv.{Tlv}
+use Rattle.ptu_messages.specs.declared.tlv.Tlv.TheVariants as tlvs
 use Rattle.ptu_messages.specs.declared.message.Body.TheVariants as body
 use Rattle.ptu_messages.specs.declared.message.Message.{Message}
 use Rattle.ptu_record.specs.declared.wants.Wants.{Wants}

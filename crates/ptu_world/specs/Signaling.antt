@@ -1,7 +1,7 @@
 -- Which Signaling messages a grandmaster sends: the one reply to each that it hears, and the CANCEL of each grant that it
 -- sheds (IEEE 1588-2019 clause 16.1).
 use Rattle.std.specs.Prelude.{◌≡◌, ℕ, Bool, ⊤, ◌==◌, filter, List, [], ◌∷◌, ◌++◌, map, Ok}
-use Rattle.ptu_tlvs.specs.declared.tlv.{Tlv.{Tlv}, Tlv.TheVariants.{Ack, Grant}}
+use Rattle.ptu_messages.specs.declared.tlv.{Tlv.{Tlv}, Tlv.TheVariants.{Ack, Grant}}
 use Rattle.ptu_outside.specs.Departure.{Departure}
 use Rattle.ptu_history.specs.{Core.{core_moment}, Counts.{counts}, Live.{Grant as LiveGrant}, Shedding.{shed_grants}}
 use Rattle.ptu_history.specs.Events as events

@@ -1,5 +1,5 @@
 use ptu_outside::MemPort;
-use ptu_pools::{Pool, Pools, PoolsFault};
+use ptu_pool_run::{Pool, Pools, PoolsFault};
 use ptu_shard::samples::CONFIG;
 use ptu_units::Capacity;
 use std::alloc::Global;

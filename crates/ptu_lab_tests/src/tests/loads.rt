@@ -1,6 +1,6 @@
 ghost use Rattle.std.specs.Prelude.{◌≤◌};
 
-use ptu_load::generate;
+use ptu_show::generate;
 use ptu_outside::MemSink;
 use std::alloc::Global;
 use std::test::Fail;

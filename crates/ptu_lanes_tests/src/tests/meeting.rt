@@ -1,4 +1,4 @@
-use ptu_rounds::Meeting;
+use ptu_outside::Meeting;
 use std::sync::Wait;
 use std::sync::atomic::{AtomicU64, Ordering};
 use std::test::Fail;

@@ -9,7 +9,7 @@ use ptu_outside::MemPort;
 use ptu_outside::samples::idle_port;
 use ptu_shard::Shard;
 use ptu_shard::samples::{CONFIG, SECOND, THREE, TWO};
-use ptu_tlvs::Ask;
+use ptu_messages::Ask;
 use ptu_units::{Capacity, Kind, Moment};
 use std::alloc::Global;
 use std::process::Abort;

@@ -6,7 +6,7 @@ use ptu_config::samples::GM_SETTINGS;
 use ptu_daemon::{serve, serve_in_two_steps};
 use ptu_outside::samples::opened_with;
 use ptu_outside::{Channel, MemClock, MemHost, MemPort, MemSink};
-use ptu_twostep::{Flags, TwoHost};
+use ptu_daemon::{Flags, TwoHost};
 use ptu_units::Moment;
 use std::alloc::Global;
 use std::process::Abort;

@@ -9,7 +9,7 @@ use ptu_outside::{MemPort, Port, samples};
 use ptu_shard::Answered;
 use ptu_shard::samples::{CONFIG, DELAY_REQ, SECOND, THREE, TWO};
 use ptu_shared::{CloseFault, Rates, Seat, Shared};
-use ptu_tlvs::Ask;
+use ptu_messages::Ask;
 use ptu_units::{Kind, Moment};
 use std::alloc::Global;
 use std::marker::Brand;

@@ -15,7 +15,7 @@ use ptu_config::SlaveSettings;
 use ptu_judges::{FlagJudge, Stock};
 use ptu_outside::samples::idle_port;
 use ptu_outside::{Arrival, Channel, Datagram, MemClock, MemHost, MemPort, MemSink};
-use ptu_rounds::DaemonFault;
+use ptu_outside::DaemonFault;
 use ptu_slave_daemon::{has_judges, slave};
 use ptu_units::Moment;
 use std::alloc::Global;

@@ -1,6 +1,6 @@
 ghost use Rattle.std.specs.Prelude.{◌≡◌, ◌<◌, ◌^◌, length};
 
-use ptu_fails::WatchState;
+use ptu_select::WatchState;
 use ptu_record::Quality;
 use ptu_select::Selector;
 use ptu_units::Moment;

@@ -3,7 +3,7 @@ ghost use Rattle.std.specs.Prelude.{◌≡◌, All, IfOk, length};
 ghost use Rattle.ptu_judges.specs.Held.{IsFresh};
 ghost use Rattle.ptu_slave.specs.{Kept.{IsSame}, Seen.{seen}, SeenBy.{seen_by}};
 
-use ptu_header::PortIdentity;
+use ptu_messages::PortIdentity;
 use ptu_judges::samples::OwnJudge;
 use ptu_judges::{GapJudge, Judge};
 use ptu_outside::MemPort;

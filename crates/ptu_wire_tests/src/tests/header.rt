@@ -1,6 +1,6 @@
 //! Headers that no stored run of the program shows as they are written, there and back.
 
-use ptu_header::{Header, PortIdentity, read_header, write_header};
+use ptu_messages::{Header, PortIdentity, read_header, write_header};
 use std::alloc::{AllocError, Global};
 use std::process::Abort;
 use std::test::Fail;

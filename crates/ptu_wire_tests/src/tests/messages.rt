@@ -1,10 +1,10 @@
 ghost use Rattle.std.specs.Prelude.{◌≡◌, pos};
 
-use ptu_header::{Header, HeaderFault, PortIdentity};
+use ptu_messages::{Header, HeaderFault, PortIdentity};
 use ptu_messages::{
     AnnounceBody, Body, Message, MessageFault, TlvList, read_message, write_fixed, write_signaling,
 };
-use ptu_tlvs::TlvFault;
+use ptu_messages::TlvFault;
 use ptu_units::Stamp;
 use std::alloc::Global;
 use std::process::Abort;

@@ -1,4 +1,4 @@
-use ptu_octets::{
+use ptu_units::{
     high_nibble, i16_at, i64_at, low_nibble, u16_at, u32_at, u48_at, u48_octets, u64_at,
 };
 

@@ -1,6 +1,6 @@
 //! TLVs that no program sends, and what is left of the array that one is written to.
 
-use ptu_tlvs::{Ask, Tlv, TlvFault, next_tlv, write_tlv};
+use ptu_messages::{Ask, Tlv, TlvFault, next_tlv, write_tlv};
 
 const CANCEL: [u8; 12] = [0, 6, 0, 2, 0xb0, 0, 0xdd, 0xdd, 0xdd, 0xdd, 0xdd, 0xdd];
 

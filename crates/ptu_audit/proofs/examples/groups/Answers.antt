@@ -1,8 +1,8 @@
 use Rattle.std.proofs.Common.{refl}
 use Rattle.std.specs.Fmt.{digits}
 use Rattle.hex.specs.Hex.{decode_pairs}
-use Rattle.ptu_header.specs.Reading.{header_in}
-use Rattle.ptu_tlvs.specs.Reading.{tlv_in}
+use Rattle.ptu_messages.specs.HeaderReading.{header_in}
+use Rattle.ptu_messages.specs.TlvsReading.{tlv_in}
 use Rattle.ptu_messages.specs.Reading.{body_in, message_in, tlvs_in}
 use Rattle.ptu_history.specs.{History.{capacity_in_force, lease_records}, Lawful.{earliest, last_period}}
 use Rattle.ptu_history.specs.Live.{last_decision, live, live_grants, standing}

@@ -1,7 +1,7 @@
 use Rattle.std.proofs.Common.{rules, ◌≡◌, ◌∙◌, ◌∷◌, [], ap, subst, Result, Ok, Err}
 use Rattle.std.specs.Result.{IfErr, OnErr, OnOk}
 use Rattle.ptu_outside.specs.Handing.{HasPut, HasPutFront}
-use Rattle.ptu_rounds.specs.declared.fault.DaemonFault.TheVariants as faults
+use Rattle.ptu_outside.specs.declared.fault.DaemonFault.TheVariants as faults
 use Rattle.ptu_daemon.specs.{Served.{closing_line, said_by}, Serving.{HasServed}}
 use Rattle.ptu_daemon.proofs.serving.serve_within.Goals as goal
 

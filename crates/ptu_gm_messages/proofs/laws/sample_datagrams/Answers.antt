@@ -1,6 +1,6 @@
 use Rattle.std.proofs.Common.{refl}
-use Rattle.ptu_header.specs.Reading.{header_in}
-use Rattle.ptu_tlvs.specs.Reading.{tlv_in}
+use Rattle.ptu_messages.specs.HeaderReading.{header_in}
+use Rattle.ptu_messages.specs.TlvsReading.{tlv_in}
 use Rattle.ptu_messages.specs.Reading.{tlvs_in, body_in, message_in}
 use Rattle.ptu_history.specs.History.{capacity_in_force, lease_records}
 use Rattle.ptu_history.specs.Live.{standing, live_grants, last_decision}

@@ -1,5 +1,5 @@
 use Rattle.std.proofs.Common.{ℕ, [], ◌∷◌, take, subst}
-use Rattle.ptu_tlvs.specs.declared.tlv.Tlv.TheVariants as tlv
+use Rattle.ptu_messages.specs.declared.tlv.Tlv.TheVariants as tlv
 use Rattle.ptu_messages.specs.Sent.{AlwaysSpells}
 use Rattle.ptu_gm_messages.specs.Replies.{identity_of, signaling_of}
 use Rattle.ptu_gm_messages.proofs.replying.cancel_of.Goals as goal

@@ -1,7 +1,7 @@
 use Rattle.std.proofs.Common.{◌≡◌, ◌≤◌, List, map, length, take, sym, ap, subst, ◌∙◌, arith}
 use Rattle.std.specs.List.{All}
 use Rattle.std.proofs.lemmas.List.{length-map}
-use Rattle.ptu_tlvs.specs.{declared.tlv.Tlv.{Tlv}, Sent.{IsSendable}}
+use Rattle.ptu_messages.specs.{declared.tlv.Tlv.{Tlv}, TlvsSent.{IsSendable}}
 use Rattle.ptu_messages.specs.Sent.{AlwaysSpells, octets_sent}
 use Rattle.ptu_gm_messages.specs.Replies.{signaling_of}
 use Rattle.ptu_grandmaster.specs.declared.outcome.Outcome.{Outcome}

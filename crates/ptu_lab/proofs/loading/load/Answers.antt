@@ -2,7 +2,7 @@ use Rattle.std.proofs.Common.{◌≡◌, ◌∷◌, [], subst, rules}
 use Rattle.ptu_outside.specs.Handing.{HasPut, HasPutPart}
 use Rattle.ptu_outside.proofs.Putting.{HasPutPart-none, HasPutPart-whole}
 use Rattle.ptu_lab.specs.Load.{summary}
-use Rattle.ptu_load.proofs.Writing.{ok_or_err}
+use Rattle.ptu_show.proofs.Writing.{ok_or_err}
 use Rattle.ptu_lab.proofs.loading.load.Goals as goal
 
 pub returns-in_err-octets-clause-front : goal.returns-in_err-octets-clause-front

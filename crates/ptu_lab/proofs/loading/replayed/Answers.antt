@@ -1,6 +1,6 @@
 use Rattle.std.proofs.Common.{◌+◌, refl}
 use Rattle.ptu_lab.proofs.LoadCounts.{causes, numbers}
-use Rattle.ptu_load.proofs.Whole.{whole_script}
+use Rattle.ptu_show.proofs.Whole.{whole_script}
 use Rattle.ptu_lab.proofs.loading.replayed.Goals as goal
 
 pub returns-clause-numbers : goal.returns-clause-numbers

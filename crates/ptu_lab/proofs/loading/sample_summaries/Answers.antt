@@ -1,8 +1,8 @@
 use Rattle.std.proofs.Common.{refl}
 use Rattle.std.specs.Fmt.{digits}
 use Rattle.hex.specs.Hex.{decode_pairs, encode_with}
-use Rattle.ptu_header.specs.Reading.{header_in}
-use Rattle.ptu_tlvs.specs.Reading.{tlv_in}
+use Rattle.ptu_messages.specs.HeaderReading.{header_in}
+use Rattle.ptu_messages.specs.TlvsReading.{tlv_in}
 use Rattle.ptu_messages.specs.Reading.{tlvs_in, body_in, message_in}
 use Rattle.ptu_history.specs.Core.{table_step_moment, book_step_moment, history_after}
 use Rattle.ptu_history.specs.{Counts.{counts}, History.{lease_records, capacity_in_force}}
@@ -16,7 +16,7 @@ use Rattle.ptu_messages.specs.Sent.{octets_sent}
 use Rattle.ptu_gm_messages.specs.{Deciding.{placed}, Items.{items_in, heard_in}}
 use Rattle.ptu_script.specs.Command.{grandmaster_in, slave_in, fields_in, command_of}
 use Rattle.ptu_world.specs.World.{step}
-use Rattle.ptu_load.specs.Generated.{generated, request_of, turn_lines}
+use Rattle.ptu_show.specs.Generated.{generated, request_of, turn_lines}
 use Rattle.ptu_lab.specs.Load.{numbers_of, object_text}
 use Rattle.ptu_lab.proofs.loading.sample_summaries.Goals as goal
 

@@ -1,6 +1,6 @@
 use Rattle.std.proofs.Common.{◌≡◌, ◌+◌, ◌-◌, ◌<◌, ◌≤◌, [], ◌∷◌, ◌++◌, true, not, inr, length, vec_len, ap, ◌∙◌, arith}
 use Rattle.std.specs.Prelude.{is_ok, slice_range}
-use Rattle.ptu_tlvs.specs.{Tlv.{BeginsWithTlv}, TlvFault.{HasTlvFault}}
+use Rattle.ptu_messages.specs.{Tlv.{BeginsWithTlv}, TlvFault.{HasTlvFault}}
 use Rattle.ptu_messages.proofs.Cuts.{length-slice_range, slice_range-drop}
 use Rattle.ptu_messages.proofs.Tlvs.{ends_full, ends_faulty, goes_on, is_done}
 use Rattle.ptu_messages.proofs.reading.read_tlvs.Goals as goal

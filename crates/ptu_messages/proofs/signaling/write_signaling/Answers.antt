@@ -1,5 +1,5 @@
 use Rattle.std.proofs.{Common.{List, take, subst}, lemmas.List.{map-id}}
-use Rattle.ptu_tlvs.specs.declared.tlv.Tlv.{Tlv}
+use Rattle.ptu_messages.specs.declared.tlv.Tlv.{Tlv}
 use Rattle.ptu_messages.specs.Sent.{signaling, AlwaysSpells}
 use Rattle.ptu_messages.proofs.signaling.write_signaling.Goals as goal
 

@@ -1,6 +1,6 @@
 use Rattle.std.proofs.{Common.{ap}, lemmas.Result.{on_ok_weaker}}
 use Rattle.ptu_outside.specs.MemoryPort.{MemoryPort}
-use Rattle.ptu_pools.specs.Standing.{KeptPools}
+use Rattle.ptu_pool_run.specs.PoolsStanding.{KeptPools}
 use Rattle.ptu_pool_run.proofs.Lent.{go_on_twice as both, room_for_replies}
 use Rattle.ptu_pool_run.proofs.room.reserve_replies.Goals as goal
 

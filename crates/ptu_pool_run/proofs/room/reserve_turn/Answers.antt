@@ -3,7 +3,7 @@ use Rattle.std.proofs.lemmas.Result.{on_ok_weaker}
 use Rattle.ptu_outside.specs.MemoryPort.{MemoryPort}
 use Rattle.ptu_grandmaster.specs.Gm.{port_at}
 use Rattle.ptu_nodes.specs.GrandmasterPorts.{HasRoom}
-use Rattle.ptu_pools.specs.Standing.{KeptPools}
+use Rattle.ptu_pool_run.specs.PoolsStanding.{KeptPools}
 use Rattle.ptu_pool_run.proofs.Lent.{room_for_turn}
 use Rattle.ptu_pool_run.proofs.room.reserve_turn.Goals as goal
 

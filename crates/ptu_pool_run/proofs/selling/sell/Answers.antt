@@ -1,6 +1,6 @@
 use Rattle.std.proofs.Common.{rules, arith, ◌≡◌, ◌∙◌, ◌++◌, ◌∷◌, [], ap, subst}
-use Rattle.ptu_pools.specs.{Refusal.{IsRefused, Share}, Standing.{StandFor}}
-use Rattle.ptu_pools.specs.declared.fault.PoolsFault.TheVariants.{OutOfMemory}
+use Rattle.ptu_pool_run.specs.{Refusal.{IsRefused, Share}, PoolsStanding.{StandFor}}
+use Rattle.ptu_pool_run.specs.declared.pools_fault.PoolsFault.TheVariants.{OutOfMemory}
 use Rattle.ptu_profile.specs.declared.grandmaster.GmConfig.{GmConfig}
 use Rattle.ptu_pool_run.proofs.{Idle.{sold_fresh}, Sold.{cause_of_fault, refused_so}}
 use Rattle.ptu_pool_run.proofs.selling.sell.Goals as goal

@@ -1,9 +1,9 @@
 use Rattle.std.proofs.Common.{rules, inl, inr, arith, ◌≡◌, ◌∙◌, ◌⊎◌, List, Err, ℕ, Some, None, map, refl, sym, subst, ap}
 use Rattle.ptu_outside.proofs.Putting.{HasPutPart-none}
-use Rattle.ptu_words.specs.declared.command.Command.{Command}
-use Rattle.ptu_words.specs.declared.command.Command.TheVariants.{Audit, Load, Replay}
-use Rattle.ptu_words.specs.CommandLine.{AreWordsRefused, words_command_of}
-use Rattle.ptu_words.proofs.Matching.{refused, unnamed}
+use Rattle.ptu_run.specs.declared.command.Command.{Command}
+use Rattle.ptu_run.specs.declared.command.Command.TheVariants.{Audit, Load, Replay}
+use Rattle.ptu_run.specs.CommandLine.{AreWordsRefused, words_command_of}
+use Rattle.ptu_run.proofs.Matching.{refused, unnamed}
 use Rattle.ptu_report.specs.declared.fault.RunFault.TheVariants.{OutOfMemory}
 use Rattle.ptu_world.specs.Report.{report_lines}
 use Rattle.ptu_run.specs.Run.{HasRun, IsOfLab, status_of}

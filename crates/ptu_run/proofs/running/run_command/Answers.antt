@@ -1,5 +1,5 @@
 use Rattle.std.proofs.Common.{rules, arith, ◌≡◌, ◌∙◌, refl, sym, subst}
-use Rattle.ptu_words.specs.declared.command.Command.TheVariants.{Audit}
+use Rattle.ptu_run.specs.declared.command.Command.TheVariants.{Audit}
 use Rattle.ptu_run.specs.Run.{HasAudited, status_found}
 use Rattle.ptu_run.proofs.Answered.{ended_by, has_ended, joined_run, no_audit, poured_run, read_failed, reads_less, replayed, shown, unless_failed}
 use Rattle.ptu_run.proofs.{Audited.{is_found}, Loaded.{has_loaded, loaded, reads_nothing}}

@@ -1,7 +1,7 @@
 use Rattle.std.proofs.Common.{refl}
 use Rattle.std.specs.Fmt.{digits}
 use Rattle.hex.specs.Hex.{decode_pairs, encode_with}
-use Rattle.ptu_header.specs.Reading.{header_in}
+use Rattle.ptu_messages.specs.HeaderReading.{header_in}
 use Rattle.ptu_messages.specs.Reading.{body_in, message_in}
 use Rattle.ptu_show.specs.Halves.{half_in}
 use Rattle.ptu_show.proofs.laws.sample_joins.Goals as goal

@@ -1,8 +1,8 @@
 use Rattle.std.proofs.Common.{refl}
 use Rattle.std.specs.Fmt.{digits}
 use Rattle.hex.specs.Hex.{decode_pairs, encode_with}
-use Rattle.ptu_header.specs.Reading.{header_in}
-use Rattle.ptu_tlvs.specs.Reading.{tlv_in}
+use Rattle.ptu_messages.specs.HeaderReading.{header_in}
+use Rattle.ptu_messages.specs.TlvsReading.{tlv_in}
 use Rattle.ptu_messages.specs.Reading.{tlvs_in, body_in, message_in}
 use Rattle.ptu_show.specs.Datagram.{datagram_text}
 use Rattle.ptu_show.proofs.laws.sample_lines.Goals as goal

@@ -1,6 +1,6 @@
 use Rattle.std.proofs.Common.{refl}
-use Rattle.ptu_header.specs.Reading.{header_in}
-use Rattle.ptu_tlvs.specs.Reading.{tlv_in}
+use Rattle.ptu_messages.specs.HeaderReading.{header_in}
+use Rattle.ptu_messages.specs.TlvsReading.{tlv_in}
 use Rattle.ptu_messages.specs.Reading.{body_in, message_in, tlvs_in}
 use Rattle.ptu_slave_messages.proofs.laws.sample_datagrams.Goals as goal
 

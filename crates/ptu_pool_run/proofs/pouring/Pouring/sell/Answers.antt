@@ -1,5 +1,5 @@
 use Rattle.std.proofs.Common.{sym, subst}
-use Rattle.ptu_pools.specs.Refusal.{Share}
+use Rattle.ptu_pool_run.specs.Refusal.{Share}
 use Rattle.ptu_pool_run.proofs.Commands.{share_of}
 use Rattle.ptu_pool_run.proofs.pouring.Pouring.sell.Goals as goal
 

@@ -1,5 +1,0 @@
-use Rattle.ptu_header.proofs.Readings.{one_or_other}
-use Rattle.ptu_header.proofs.laws.one_header_reading.Goals as goal
-
-pub returns-clause-one_or_other : goal.returns-clause-one_or_other
-returns-clause-one_or_other c = one_or_other

@@ -1,5 +1,0 @@
-use Rattle.ptu_pools.proofs.Apart.{NoneBelow}
-use Rattle.ptu_pools.proofs.judging.overlap.Given as goal
-
-abbrev pub invariant-loop-second : goal.invariant-loop-second
-invariant-loop-second l = NoneBelow l.pools l.second

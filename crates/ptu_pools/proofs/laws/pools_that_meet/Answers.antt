@@ -1,5 +1,0 @@
-use Rattle.ptu_pools.proofs.Apart.{met_shared, shared_met}
-use Rattle.ptu_pools.proofs.laws.pools_that_meet.Goals as goal
-
-pub returns : goal.returns
-returns _ = λ a b. (met_shared a b, shared_met a b)

@@ -1,4 +1,0 @@
-pub mod Steps
-pub mod Pairs
-pub mod Telling
-pub mod Hosts
