@@ -1,6 +1,6 @@
 pub mod Addresses
 pub mod Cutting
-pub mod Digits
+pub mod DecimalDigits
 pub mod Giving
 pub mod HasRead
 pub mod Logs

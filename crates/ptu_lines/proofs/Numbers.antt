@@ -9,7 +9,7 @@ use Rattle.std.specs.{Fmt.{signed_decimal}, Option.{option_and_then, option_map}
 use Rattle.std.specs.{Prelude.{unsigned_abs}, Char.{is_digit}, List.{list_all}}
 use Rattle.std.specs.Str.Parse.{digits_value, AllDigits}
 use Rattle.ptu_lines.specs.Words.{is_short, number_of, negative, has_sign, log_of}
-use Rattle.ptu_lines.proofs.Digits.{list_all-digits}
+use Rattle.ptu_lines.proofs.DecimalDigits.{list_all-digits}
 
 numerals : IsNumeralModel (AllDigits 10) (digits_value 10)
 numerals = record { to = λ ds h. h; from = λ ds h. h; same = λ ds h. refl }

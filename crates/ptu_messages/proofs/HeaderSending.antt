@@ -2,7 +2,7 @@
 use Rattle.std.proofs.Common.{◌≡◌, ℕ, ◌^◌, ◌<◌, ◌≤◌, refl, sym, arith}
 use Rattle.std.specs.Prelude.{◌%◌, List, ◌++◌}
 use Rattle.std.proofs.Math.Nat.{mod-eq_of_lt}
-use Rattle.ptu_units.proofs.{Numbers.{number_at-octets_of}, Signs.{signed_at-octets_64}}
+use Rattle.ptu_units.proofs.{BigEndian.{number_at-octets_of}, Signs.{signed_at-octets_64}}
 use Rattle.ptu_messages.specs.declared.header.{Header.{Header}, PortIdentity.{PortIdentity}}
 use Rattle.ptu_messages.specs.Header.{AlwaysSpellsHeader, HasIdentityWidths, HasWidths, header_at, identity_at}
 use Rattle.ptu_messages.specs.HeaderSent.{sent_header, sent_identity}

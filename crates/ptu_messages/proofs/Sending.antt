@@ -5,7 +5,7 @@ use Rattle.std.proofs.lemmas.List.Elements.{All-head, All-tail}
 use Rattle.std.specs.List.{flat_map}
 use Rattle.std.proofs.lemmas.List.{append-nil, take_at}
 use Rattle.ptu_units.specs.declared.stamp.Stamp.{Stamp}
-use Rattle.ptu_units.proofs.{Numbers.{number_at-octets_of}, Signs.{signed_at-octets_16}}
+use Rattle.ptu_units.proofs.{BigEndian.{number_at-octets_of}, Signs.{signed_at-octets_16}}
 use Rattle.ptu_messages.specs.declared.header.{Header.{Header}, PortIdentity.{PortIdentity}}
 use Rattle.ptu_messages.specs.Header.{AlwaysSpellsHeader, HasIdentityWidths, SpellsHeader, identity_at}
 use Rattle.ptu_messages.specs.Header as headers

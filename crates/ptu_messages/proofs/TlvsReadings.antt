@@ -3,7 +3,7 @@ use Rattle.std.proofs.Common.{◌≡◌, ℕ, ne_eqb, ◌+◌, ◌-◌, ◌<◌,
 use Rattle.std.specs.Prelude.{◌==◌}
 use Rattle.std.proofs.lemmas.{Bool.{cases_lt, cases_eq, le-ltb, lt-ltb}, List.{length-take-le}}
 use Rattle.ptu_units.specs.Number.{number_at, high_nibble_at}
-use Rattle.ptu_units.proofs.Numbers.{number_at-take}
+use Rattle.ptu_units.proofs.BigEndian.{number_at-take}
 use Rattle.ptu_messages.specs.declared.tlv.{Ask.{Ask}, Tlv.{Tlv}}
 use Rattle.ptu_messages.specs.declared.tlv.Tlv.TheVariants.{Request, Grant, Cancel, Ack, Other}
 use Rattle.ptu_messages.specs.declared.tlvs_fault.TlvFault.{TlvFault}

@@ -8,7 +8,7 @@ use Rattle.std.proofs.lemmas.List.{length-append, take_at, drop_at, get_or-appen
 use Rattle.hex.specs.Hex.{IsBytes, encode_lower, encode_with, lower_digits}
 use Rattle.hex.proofs.HexLemmas.{length-encode_with}
 use Rattle.ptu_units.specs.Number as numbers
-use Rattle.ptu_units.proofs.Numbers.{length-octets_of}
+use Rattle.ptu_units.proofs.BigEndian.{length-octets_of}
 use Rattle.ptu_units.specs.declared.kind.{Kind.{Kind}, Kind.TheVariants.{Announce, Sync, DelayResp}}
 use Rattle.ptu_units.specs.{Log.{IsLogOf, least_log}}
 use Rattle.ptu_messages.specs.declared.header.PortIdentity.{PortIdentity}

@@ -3,7 +3,7 @@ pub mod JoinCauses
 pub mod Partners
 pub mod Relation
 pub mod Writing
-pub mod Lines
+pub mod LoadLines
 pub mod Going
 pub mod Words
 pub mod Requests

@@ -16,7 +16,7 @@ use Rattle.ptu_show.specs.Generated.{ask_line, ask_lines, client_text, generated
 use Rattle.ptu_show.specs.Whole.{LoadsAreWhole}
 use Rattle.ptu_show.proofs.Commands.{client_address, client_line, client_says, grandmaster_line, grandmaster_says, setup_of, turn_line, turn_says}
 use Rattle.ptu_show.proofs.Going.{IsGoing, address, goes_whole, receive_taken, setup_taken, turn_taken}
-use Rattle.ptu_show.proofs.Lines.{IsShortText, ended, lines_whole}
+use Rattle.ptu_show.proofs.LoadLines.{IsShortText, ended, lines_whole}
 use Rattle.ptu_show.proofs.Requests.{length-request, request_bytes}
 use Rattle.ptu_texts.proofs.Read.{decimal_glyphs, octets_glyphs}
 use Rattle.ptu_show.proofs.Words.{plain_alone, plain_behind}

@@ -10,9 +10,9 @@ use Rattle.std.proofs.lemmas.Str.Parse.{IsNumeralModel, digit_from_value}
 use Rattle.hex.specs.Hex.{IsBytes, encode_lower, encode_with, hex_digit_value, lower_digits}
 use Rattle.hex.proofs.HexLemmas.{IsDigits-lower_digits, decode_of-encode_lower, length-encode_with}
 use Rattle.ptu_units.specs.Number as numbers
-use Rattle.ptu_units.proofs.Numbers.{length-octets_of, number_at-octets_of}
+use Rattle.ptu_units.proofs.BigEndian.{length-octets_of, number_at-octets_of}
 use Rattle.ptu_lines.specs.Words.{address_of, clock_of, ip_of, number_within, octets_of, within}
-use Rattle.ptu_lines.proofs.{Digits.{list_all-digits}, Numbers.{number_of-decimal}}
+use Rattle.ptu_lines.proofs.{DecimalDigits.{list_all-digits}, Numbers.{number_of-decimal}}
 use Rattle.ptu_texts.specs.Texts.{address_text, clock_text}
 use Rattle.ptu_lines.proofs.Encoded.{encode_lower-append}
 

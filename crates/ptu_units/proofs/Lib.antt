@@ -1,3 +1,3 @@
 mod Tables
-pub mod Numbers
+pub mod BigEndian
 pub mod Signs

@@ -4,7 +4,7 @@ use Rattle.std.specs.{Prelude.{ℤ}, Int.{w8, w16, w64, cast_signed, cast_unsign
 use Rattle.std.specs.Int.RustNames.{FitsSigned}
 use Rattle.std.proofs.{lemmas.Int.{to_z-of_z}, Math.Facts.{Fits-of_z}}
 use Rattle.ptu_units.specs.Number.{signed_at, signed_octets}
-use Rattle.ptu_units.proofs.Numbers.{number_at-octets_of}
+use Rattle.ptu_units.proofs.BigEndian.{number_at-octets_of}
 
 pub signed_at-octets_8 : (z : ℤ) → FitsSigned w8 z → signed_at w8 (signed_octets w8 z) 0 ≡ z
 signed_at-octets_8 z fits = ap (cast_signed w8) (number_at-octets_of 1 (cast_unsigned w8 z) (search (arith, Fits-of_z, fits))) ∙ to_z-of_z w8 z fits

@@ -8,7 +8,7 @@ ghost use Rattle.ptu_units.specs.Number.{number_at, octets_of, signed_at, signed
 ghost use Rattle.ptu_units.specs.Samples.{NumbersAreRead, SignsAreRead, NibblesAreRead};
 
 /// What was written is read at its place, whatever stands before and behind it.
-#[tactic(auto, using(crate::proofs::Numbers::written_is_read))]
+#[tactic(auto, using(crate::proofs::BigEndian::written_is_read))]
 pub fn written_is_read()
     ensures many { (count n : ℕ) → length (octets_of count n) ≡ count }
     ensures again { (count n : ℕ) → n < 256 ^ count → number_at (octets_of count n) 0 count ≡ n }

@@ -1,6 +1,6 @@
 use Rattle.std.proofs.Common.{rules, ◌≡◌, ◌<◌, length, get_or, ap, ◌∙◌, arith}
 use Rattle.std.specs.Char.{digit_value}
-use Rattle.ptu_lines.proofs.Digits.{IsReadTo-start, IsReadTo-more, next_fits, value_of-read}
+use Rattle.ptu_lines.proofs.DecimalDigits.{IsReadTo-start, IsReadTo-more, next_fits, value_of-read}
 use Rattle.ptu_lines.proofs.forms.value.Goals as goal
 
 pub loop-octet-init : goal.loop-octet-init

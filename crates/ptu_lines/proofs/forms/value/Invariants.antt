@@ -1,4 +1,4 @@
-use Rattle.ptu_lines.proofs.Digits.{IsReadTo}
+use Rattle.ptu_lines.proofs.DecimalDigits.{IsReadTo}
 use Rattle.ptu_lines.proofs.forms.value.Given as goal
 
 abbrev pub invariant-loop-octet : goal.invariant-loop-octet
