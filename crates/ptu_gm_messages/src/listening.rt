@@ -11,10 +11,10 @@ use crate::heard::Heard;
 use crate::item::{Item, Items};
 use crate::reason::GmReason;
 use crate::room::HearingRoom;
-use ptu_messages::{Header, PortIdentity};
-use ptu_messages::{Body, Message, MessageFault, TlvList, read_message_in};
+use ptu_messages::{
+    Body, Header, Message, MessageFault, PortIdentity, Tlv, TlvList, read_message_in,
+};
 use ptu_profile::GmConfig;
-use ptu_messages::Tlv;
 use ptu_units::OutOfMemory;
 use std::alloc::{AllocError, Global};
 use std::mem::replace;

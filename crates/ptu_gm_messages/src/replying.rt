@@ -6,11 +6,9 @@ ghost use Rattle.ptu_messages.specs.Sent.{AlwaysSpells, octets_sent};
 ghost use Rattle.ptu_units.specs.Kind.{code_of};
 ghost use Rattle.ptu_gm_messages.specs.Replies.{identity_of, signaling_of};
 
-use ptu_messages::PortIdentity;
 use ptu_history::Client;
-use ptu_messages::{ToTlv, write_signaling_of};
+use ptu_messages::{PortIdentity, Tlv, ToTlv, write_signaling_of};
 use ptu_profile::GmConfig;
-use ptu_messages::Tlv;
 use ptu_units::Kind;
 use ptu_units::message_types::SIGNALING;
 use ptu_units::sizes::LONGEST_SIGNALING;

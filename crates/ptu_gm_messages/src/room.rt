@@ -1,8 +1,7 @@
 //! Memory that is used again for each Signaling, so that a datagram needs no new lists.
 
 use crate::item::{Item, Items};
-use ptu_messages::{Body, Message};
-use ptu_messages::Tlv;
+use ptu_messages::{Body, Message, Tlv};
 use std::alloc::Global;
 
 /// Room for the lists of one Signaling, which is kept for those of the next. A clause says nothing

@@ -11,8 +11,8 @@ use crate::outcome::{Outcome, Outcomes};
 use ptu_admit::{Cancelled, Verdict, cancel, decide_all, decide_one};
 use ptu_gm_messages::Item;
 use ptu_history::{Client, table_of};
-use ptu_outside::Port;
 use ptu_messages::Ask;
+use ptu_outside::Port;
 use ptu_units::{Kind, Moment, OutOfMemory};
 
 impl<P: Port> Gm<P> {

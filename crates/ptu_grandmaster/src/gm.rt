@@ -63,8 +63,8 @@ impl<P: Port> Model for Gm<P> {
 }
 
 impl<P: Port> Gm<P> {
-    /// A grandmaster without grants, of this capacity, at moment 0. The first four ports are those of its tables, and the last is that of its
-    /// Signaling messages.
+    /// A grandmaster without grants, of this capacity, at moment 0. The first four ports are those
+    /// of its tables, and the last is that of its Signaling messages.
     pub fn new(
         alloc: Global,
         config: GmConfig,

@@ -2,9 +2,9 @@
 
 use ptu_admit::{Cancelled, Verdict};
 use ptu_gm_messages::GmReason;
+use ptu_messages::Ask;
 use ptu_outside::Reply;
 use ptu_shard::Answered;
-use ptu_messages::Ask;
 use ptu_units::Listed;
 
 /// What an item of a Signaling came to.

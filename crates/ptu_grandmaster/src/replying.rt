@@ -10,11 +10,9 @@ ghost use Rattle.ptu_grandmaster.specs.Taking.{Replies};
 use crate::outcome::{Outcome, Outcomes};
 use ptu_admit::Verdict;
 use ptu_gm_messages::write_reply;
-use ptu_messages::{Header, PortIdentity};
-use ptu_messages::ToTlv;
+use ptu_messages::{Ask, Header, PortIdentity, Tlv, ToTlv};
 use ptu_outside::{Channel, Port, Reply, hand};
 use ptu_profile::GmConfig;
-use ptu_messages::{Ask, Tlv};
 use ptu_units::sizes::LONGEST_SIGNALING;
 
 impl ToTlv for Outcome {

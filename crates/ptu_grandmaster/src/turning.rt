@@ -12,8 +12,8 @@ ghost use Rattle.ptu_gm_messages.specs.Deciding.{opened_with};
 ghost use Rattle.ptu_grandmaster.specs.{Gm.{StandsFor, table_at, with_table}, Taking.{Responds}};
 
 use crate::gm::Gm;
-use ptu_messages::Header;
 use ptu_history::{Client, table_of};
+use ptu_messages::Header;
 use ptu_outside::Port;
 use ptu_shard::{Answered, Turned};
 use ptu_units::Moment;

@@ -15,7 +15,6 @@ mod stock;
 pub use done::Done;
 pub use loading::{load, sample_summaries};
 pub use ptu_judges::Stock;
-pub use ptu_show::generate;
 pub use ptu_script::Cause;
-pub use ptu_show::{LabFault, show};
+pub use ptu_show::{LabFault, generate, show};
 pub use replaying::replay;

@@ -12,10 +12,9 @@ ghost use Rattle.ptu_lab.specs.Load.{numbers_of, object_text, summary, summary_d
 use crate::done::Done;
 use crate::replaying::replay;
 use ptu_judges::Stock;
-use ptu_show::{generate, put};
 use ptu_outside::{Failed, MemSink, Sink, Source};
 use ptu_report::RunFault;
-use ptu_show::LabFault;
+use ptu_show::{LabFault, generate, put};
 use serde_json::{Value, json};
 use std::alloc::{AllocError, Global};
 

@@ -25,8 +25,8 @@ ghost use Rattle.ptu_lab.specs.Steps.{HasActedLeaving, stock_of};
 
 use crate::slave_statements::{say_heard, was_ignored};
 use crate::stock::{Reserve, take_judge};
-use ptu_messages::PortIdentity;
 use ptu_judges::{Judge, Rule};
+use ptu_messages::PortIdentity;
 use ptu_nodes::Journal;
 use ptu_outside::MemPort;
 use ptu_report_lines::Statement;

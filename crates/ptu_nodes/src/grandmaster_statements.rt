@@ -13,9 +13,9 @@ ghost use Rattle.ptu_nodes.specs.GrandmasterStatements.{outcomes_said, shed_seen
 use crate::journal::Journal;
 use ptu_admit::{Cancelled, Outside, Shed, Verdict};
 use ptu_grandmaster::{GmReason, Outcome, Taken};
+use ptu_messages::Ask;
 use ptu_report_lines::{Decision, DelayAnswer, Reason, Statement};
 use ptu_shard::Answered;
-use ptu_messages::Ask;
 use ptu_units::{Kind, OutOfMemory};
 
 // Why a datagram was ignored.

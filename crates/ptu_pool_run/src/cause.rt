@@ -3,9 +3,8 @@
 ghost use Rattle.std.specs.Prelude.{◌≡◌, ◌≤◌, ◌+◌, ◌++◌, Some};
 ghost use Rattle.ptu_pool_run.specs.Cause.{pool_cause_of_line, cause_of_script, pool_cause_text};
 
-use ptu_lines::LineCause;
+use ptu_lines::{LineCause, LinePart, LineText};
 use ptu_script::Cause;
-use ptu_lines::{LinePart, LineText};
 use std::error::Error;
 use std::fmt;
 

@@ -1,7 +1,7 @@
 //! What a line of a script of pools commands.
 
-use ptu_lines::LentOctets;
 use crate::Pool;
+use ptu_lines::LentOctets;
 use ptu_script::GrandmasterSetup;
 use ptu_units::Moment;
 

@@ -5,8 +5,8 @@ ghost use Rattle.std.specs.List.{position};
 ghost use Rattle.ptu_pool_run.specs.Pool.{AreApart, meets};
 ghost use Rattle.ptu_pool_run.specs.Refusal.{IsFirstOverlap, IsRefused, Share, capacities, first_wrong};
 
-use crate::pools_fault::PoolsFault;
 use crate::pool::Pool;
+use crate::pools_fault::PoolsFault;
 
 // The place of the first pool that is no network.
 fn wrong_net(pools: &[Pool]) -> Option<usize>

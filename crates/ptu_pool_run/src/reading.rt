@@ -6,10 +6,10 @@ ghost use Rattle.ptu_pool_run.specs.Command.{pool_command_by, pool_command_of, p
 ghost use Rattle.ptu_pool_run.specs.{Limits.{IsPoolCommandInRange}, Verb.{pool_verb_named}};
 ghost use Rattle.ptu_pool_run.specs.declared.verb.PoolVerb.TheVariants as verbs;
 
+use crate::Pool;
 use crate::command::PoolCommand;
 use crate::verb::PoolVerb;
 use ptu_lines::WordList;
-use crate::Pool;
 use ptu_script::Cause;
 use ptu_script::fields::{
     bits_field, capacity_field, ip_field, moment_field, number_field, octets_field,

@@ -8,11 +8,11 @@ ghost use Rattle.ptu_nodes.specs.Standing.{AreIdle};
 ghost use Rattle.ptu_pool_run.specs.Ported.{with_port_of};
 ghost use Rattle.ptu_pool_run.specs.Ports.{AreAllSure, AreOthersSame, GoOn, GoOnIdle, sent_texts};
 
+use crate::Pools;
 use crate::output::PoolLine;
 use ptu_grandmaster::SIGNALING_PORT;
 use ptu_lines::LentOctets;
 use ptu_outside::MemPort;
-use crate::Pools;
 use ptu_report::Texts;
 use ptu_units::OutOfMemory;
 use ptu_units::sizes::{ANNOUNCE_LENGTH, DELAY_RESP_LENGTH, LONGEST_SIGNALING};

@@ -5,9 +5,9 @@ ghost use Rattle.ptu_pool_run.specs.Refusal.{Share};
 ghost use Rattle.ptu_pool_run.specs.{Selling.{selling_refusal}, Standing.{AreSold}};
 
 use crate::cause::PoolCause;
+use crate::{Pool, Pools, PoolsFault};
 use ptu_nodes::config_of;
 use ptu_outside::MemPort;
-use crate::{Pool, Pools, PoolsFault};
 use ptu_script::GrandmasterSetup;
 use ptu_units::OutOfMemory;
 use std::alloc::Global;

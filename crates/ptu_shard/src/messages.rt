@@ -6,11 +6,11 @@ ghost use Rattle.ptu_messages.specs.Sent.{IsFixed, octets_sent};
 ghost use Rattle.ptu_outside.specs.HandsOver.{HandsOver, failed_in, sent_in};
 ghost use Rattle.ptu_shard.specs.Messages.{announce_of, message_of_response, message_of_turn};
 
-use ptu_messages::Header;
-use ptu_messages::{AnnounceBody, Body, Message, write_fixed};
+use ptu_messages::{AnnounceBody, Body, Header, Message, write_fixed};
 use ptu_outside::{Channel, Failed, Port, hand};
 use ptu_profile::GmConfig;
 use ptu_units::message_types::DELAY_RESP;
+use ptu_units::sizes::ANNOUNCE_LENGTH;
 use ptu_units::timescale::stamp;
 use ptu_units::{Kind, Moment};
 
@@ -83,7 +83,7 @@ pub(crate) fn send_fixed<P: Port>(
         (record { ip = ip; channel = channel; bytes = octets_sent message.now } ∷ [])
         (sent_in result) (failed_in result) }
 {
-    let mut octets = [0; 64];
+    let mut octets = [0; ANNOUNCE_LENGTH];
     let size = write_fixed(message, &mut octets);
     hand(port, ip, channel, &octets[..size])
 }

@@ -1,8 +1,8 @@
 //! Values for tests and examples: a client of each table of a grandmaster, and the header of a
 //! Delay_Req; and those of `ptu_profile`.
 
-use ptu_messages::{Header, PortIdentity};
 use ptu_history::Client;
+use ptu_messages::{Header, PortIdentity};
 pub use ptu_profile::samples::CONFIG;
 
 /// The nanoseconds of a second.

@@ -8,8 +8,8 @@ ghost use Rattle.ptu_shard.specs.Turn.{message_of_row};
 
 use crate::lease::Row;
 use crate::messages::{response_message, send_fixed, turn_message};
-use ptu_messages::Header;
 use ptu_history::Client;
+use ptu_messages::Header;
 use ptu_outside::{Channel, Failed, Port};
 use ptu_profile::GmConfig;
 use ptu_units::{Kind, Moment};

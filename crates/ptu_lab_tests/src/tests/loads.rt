@@ -1,7 +1,7 @@
 ghost use Rattle.std.specs.Prelude.{◌≤◌};
 
-use ptu_show::generate;
 use ptu_outside::MemSink;
+use ptu_show::generate;
 use std::alloc::Global;
 use std::test::Fail;
 
