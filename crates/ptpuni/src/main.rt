@@ -17,9 +17,8 @@ ghost use Rattle.ptu_judges.specs.Held.{IsStock, fresh};
 
 use ptu_judges::{FlagJudge, GapJudge, Judge, NAMED_GAP, Rule, Stock};
 use ptu_outside::{Host, StdSink, StdSource};
-use ptu_run::{OUT_OF_MEMORY, USAGE, run, run_in_blocks, texts_of, waits_for_lines};
+use ptu_run::{OUT_OF_MEMORY, USAGE, USAGE_TEXT, run, run_in_blocks, texts_of, waits_for_lines};
 use ptu_udp::UdpHost;
-use ptu_run::USAGE_TEXT;
 use std::alloc::AllocError;
 use std::env::Env;
 use std::io::{ErrorKind, IsTerminal, Stdin, Stdout};

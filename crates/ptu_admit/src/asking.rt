@@ -17,10 +17,10 @@ use crate::profile::{Wanted, wanted_by};
 use crate::sweeping::sweep_all;
 use crate::verdict::Verdict;
 use ptu_history::{Client, table_of};
+use ptu_messages::Ask;
 use ptu_outside::Port;
 use ptu_profile::GmConfig;
 use ptu_shard::Shard;
-use ptu_messages::Ask;
 use ptu_units::{Moment, rate};
 
 /// Decides an ask over the client's table alone, at the greatest of `t`, the book's moment and the

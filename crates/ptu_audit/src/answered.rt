@@ -5,9 +5,8 @@ ghost use Rattle.ptu_audit.specs.Answered as specs;
 
 use crate::line::Said;
 use ptu_audit_lines::Decision;
-use ptu_messages::PortIdentity;
 use ptu_history::Client;
-use ptu_messages::Tlv;
+use ptu_messages::{PortIdentity, Tlv};
 use ptu_units::Kind;
 use ptu_units::timescale::NANOS_PER_SECOND;
 

@@ -4,9 +4,9 @@ ghost use Rattle.std.specs.Prelude.{◌≡◌, ◌≤◌, ◌++◌, OnOk, Some, 
 ghost use Rattle.ptu_audit.specs.Texts.{answer_text, cause_text, no_text, refusal_text};
 
 use crate::answer::{Answer, AuditCause};
+use ptu_lines::{Draft, LineText, Text};
 use ptu_trail::NoCause;
 use ptu_units::OutOfMemory;
-use ptu_lines::{Draft, LineText, Text};
 use std::fmt;
 
 impl AuditCause {

@@ -12,8 +12,7 @@ use crate::next::Next;
 use crate::tally::Tally;
 use ptu_config::GmSettings;
 use ptu_grandmaster::{Gm, SIGNALING_PORT};
-use ptu_outside::{Channel, Clock, Failed, Port};
-use ptu_outside::last_moment;
+use ptu_outside::{Channel, Clock, Failed, Port, last_moment};
 use ptu_units::OutOfMemory;
 use ptu_units::sizes::LONGEST_DATAGRAM;
 

@@ -10,10 +10,9 @@ ghost use Rattle.ptu_daemon.specs.{Pairs.{pair, pair_by}, Steps.{step_of}};
 ghost use Rattle.ptu_daemon.specs.Telling.{HandsPair, ceases_in_two, is_half, told_by};
 
 use crate::step::{Step, find_step};
-use ptu_units::high_nibble;
 use ptu_outside::{Channel, Failed, Port, hand};
-use ptu_units::Moment;
 use ptu_units::sizes::LONGEST_DATAGRAM;
+use ptu_units::{Moment, high_nibble};
 use std::marker::Model;
 
 /// A port that sends each Sync in two steps, over another port: what it is handed as a Sync in one

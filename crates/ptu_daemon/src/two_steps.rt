@@ -3,11 +3,10 @@
 ghost use Rattle.ptu_config.specs.Limits.{IsGmInRange};
 ghost use Rattle.ptu_daemon.specs.{Answers.{HasAnswered}, ServingInTwo.{HasServedInTwo}};
 
+use crate::TwoHost;
 use crate::serving::serve;
 use ptu_config::GmSettings;
-use ptu_outside::{Host, Sink};
-use ptu_outside::DaemonFault;
-use crate::TwoHost;
+use ptu_outside::{DaemonFault, Host, Sink};
 use std::alloc::Global;
 use std::sync::Wait;
 use std::thread::Threads;

@@ -17,9 +17,8 @@ use crate::lanes::{
 };
 use crate::service::Service;
 use ptu_config::GmSettings;
-use ptu_outside::{Clock, Opened, Port};
+use ptu_outside::{Clock, Meeting, Opened, Port};
 use ptu_profile::GmConfig;
-use ptu_outside::Meeting;
 use ptu_shared::{Rates, Seat, Shared};
 use ptu_units::OutOfMemory;
 use std::alloc::Global;

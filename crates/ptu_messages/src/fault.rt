@@ -3,8 +3,7 @@
 ghost use Rattle.std.specs.Prelude.{◌≡◌, Some};
 ghost use Rattle.ptu_messages.specs.MessageFault.{message_fault_text};
 
-use crate::HeaderFault;
-use crate::TlvFault;
+use crate::{HeaderFault, TlvFault};
 use std::error::Error;
 use std::fmt;
 

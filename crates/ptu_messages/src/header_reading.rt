@@ -6,10 +6,10 @@ ghost use Rattle.ptu_messages.specs.{HeaderFault.{HasHeaderFault}, HeaderReading
 ghost use Rattle.ptu_messages.specs.declared.header.Header.{Header};
 ghost use Rattle.ptu_messages.specs.declared.header_fault.HeaderFault.{HeaderFault};
 
-use crate::header_fault::HeaderFault;
 use crate::header::{Header, PortIdentity};
-use ptu_units::{high_nibble, i64_at, low_nibble, u16_at};
+use crate::header_fault::HeaderFault;
 use ptu_units::sizes::HEADER_LENGTH;
+use ptu_units::{high_nibble, i64_at, low_nibble, u16_at};
 
 /// The versionPTP of the messages that are read.
 const VERSION: u8 = 2;

@@ -29,7 +29,9 @@ pub use fault::MessageFault;
 pub use fixed::write_fixed;
 pub use header::{Header, PortIdentity};
 pub use header_fault::HeaderFault;
-pub use header_laws::{one_header_reading, header_reading_is_spelling, sample_headers, sent_header_is_read};
+pub use header_laws::{
+    header_reading_is_spelling, one_header_reading, sample_headers, sent_header_is_read,
+};
 pub use header_reading::read_header;
 pub use laws::{one_reading, reading_is_spelling, sample_messages, sent_is_read};
 pub use message::{AnnounceBody, Body, Message};
@@ -38,7 +40,7 @@ pub use signaling::{write_signaling, write_signaling_of};
 pub use tlv::{Ask, Tlv};
 pub use tlv_list::TlvList;
 pub use tlvs_fault::TlvFault;
-pub use tlvs_laws::{one_tlv_reading, tlv_reading_is_spelling, sample_tlvs, sent_tlv_is_read};
+pub use tlvs_laws::{one_tlv_reading, sample_tlvs, sent_tlv_is_read, tlv_reading_is_spelling};
 pub use tlvs_reading::next_tlv;
 pub use tlvs_writing::write_tlv;
 pub use to_tlv::ToTlv;

@@ -8,8 +8,7 @@ ghost use Rattle.ptu_messages.specs.Sent.{sent_message, signaling, AlwaysSpells}
 
 use crate::putting::put;
 use crate::to_tlv::ToTlv;
-use crate::{Header, PortIdentity, write_header};
-use crate::{Tlv, write_tlv};
+use crate::{Header, PortIdentity, Tlv, write_header, write_tlv};
 use ptu_units::sizes::LONGEST_SIGNALING;
 
 // Puts the TLVs at octet 44 and behind, and says where they end.

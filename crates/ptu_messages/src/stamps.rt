@@ -3,8 +3,7 @@
 ghost use Rattle.std.specs.Prelude.{◌≡◌, ◌+◌, ◌≤◌, ◌<◌, ◌^◌, length};
 ghost use Rattle.ptu_messages.specs.{Message.{HasStampWidths, stamp_at}, Sent.{sent_stamp}};
 
-use ptu_units::{u32_at, u48_at, u48_octets};
-use ptu_units::Stamp;
+use ptu_units::{Stamp, u32_at, u48_at, u48_octets};
 
 /// The timestamp in the ten octets from a place on.
 pub fn stamp(octets: &[u8], place: usize) -> Stamp

@@ -5,8 +5,8 @@ ghost use Rattle.ptu_messages.specs.Tlv.{IsWhole, IsFirst, ask_at, SpellsTlv, Be
 ghost use Rattle.ptu_messages.specs.{TlvFault.{HasTlvFault}, TlvsReading.{tlv_in}, declared.tlv.Tlv.{Tlv}};
 ghost use Rattle.ptu_messages.specs.declared.tlvs_fault.TlvFault.{TlvFault};
 
-use crate::tlvs_fault::TlvFault;
 use crate::tlv::{ACKNOWLEDGE, Ask, CANCEL, GRANT, REQUEST, Tlv};
+use crate::tlvs_fault::TlvFault;
 use ptu_units::{high_nibble, u16_at, u32_at};
 
 // How many octets a tlvType and a lengthField have.

@@ -12,8 +12,8 @@ ghost use Rattle.ptu_script.specs.declared.command.GrandmasterSetup.{Grandmaster
 
 use crate::output::PoolLine;
 use crate::room::{reserve_replies, reserve_turn, tell_ports};
-use ptu_outside::MemPort;
 use crate::{Pool, PoolTaken, Pools};
+use ptu_outside::MemPort;
 use ptu_report::Texts;
 use ptu_units::{Moment, OutOfMemory};
 

@@ -11,10 +11,10 @@ ghost use Rattle.ptu_pool_run.specs.{Making.{AreFresh}, PoolsStanding.{ChangesOn
 ghost use Rattle.ptu_pool_run.specs.{Changes.{Took, TookTurn}, Ported.{with_port_of}};
 ghost use Rattle.ptu_pool_run.specs.Lends.{LendsPort};
 
-use crate::pools_fault::PoolsFault;
 use crate::judging::judge;
 use crate::making::grandmasters;
 use crate::pool::Pool;
+use crate::pools_fault::PoolsFault;
 use ptu_grandmaster::{Gm, Taken};
 use ptu_outside::Port;
 use ptu_profile::GmConfig;

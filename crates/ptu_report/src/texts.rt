@@ -4,8 +4,8 @@ ghost use Rattle.std.specs.Prelude.{◌≡◌, ◌++◌, ◌∷◌, [], ◌<◌,
 ghost use Rattle.ptu_lines.specs.Draft.{Drafted};
 
 use crate::span::Span;
-use ptu_units::OutOfMemory;
 use ptu_lines::{Draft, Text};
+use ptu_units::OutOfMemory;
 use std::alloc::Global;
 use std::marker::Model;
 

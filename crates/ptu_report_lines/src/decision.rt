@@ -7,9 +7,9 @@ ghost use Rattle.ptu_report_lines.specs.Statements.{decision_text, words_text};
 ghost use Rattle.ptu_report_lines.specs.declared.decision.Decision.TheVariants as decisions;
 
 use crate::words::{Word, put_words};
+use ptu_lines::{LinePart, LineText};
 use ptu_texts::KindText;
 use ptu_units::{Kind, Moment};
-use ptu_lines::{LinePart, LineText};
 
 /// What a grandmaster decided on a REQUEST or a CANCEL. Rates and capacities are in sixteenths of a
 /// message per second.

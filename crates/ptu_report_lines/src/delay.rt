@@ -4,8 +4,8 @@ ghost use Rattle.std.specs.Prelude.{◌≡◌, ◌≤◌, ◌+◌, ◌++◌};
 ghost use Rattle.ptu_report_lines.specs.Statements.{delay_text};
 
 use crate::words::{Word, put_words};
-use ptu_units::Moment;
 use ptu_lines::{LinePart, LineText};
+use ptu_units::Moment;
 
 /// What a Delay_Req came to at a grandmaster.
 #[derive(Clone, Copy)]

@@ -5,8 +5,8 @@ ghost use Rattle.ptu_texts.specs.Texts.{address_text};
 ghost use Rattle.ptu_report_lines.specs.Statements.{hearing_text, words_text};
 
 use crate::words::{Word, put_words};
-use ptu_units::Moment;
 use ptu_lines::{LinePart, LineText};
+use ptu_units::Moment;
 
 /// What a slave heard of a master, which is named by its address.
 #[derive(Clone, Copy)]

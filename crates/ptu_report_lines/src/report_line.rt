@@ -6,8 +6,8 @@ ghost use Rattle.ptu_report_lines.specs.declared.report_line.ReportLine.TheVaria
 
 use crate::statement::Statement;
 use crate::words::{Word, put_words};
-use ptu_units::OutOfMemory;
 use ptu_lines::{Draft, LineText, Text};
+use ptu_units::OutOfMemory;
 
 /// A line of a report. Its text has the 0A at its end.
 #[derive(Drop)]

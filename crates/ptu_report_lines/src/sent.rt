@@ -7,10 +7,10 @@ ghost use Rattle.ptu_report_lines.specs.declared.report_line.ReportLine.TheVaria
 ghost use Rattle.ptu_report_lines.specs.declared.statement.Statement.TheVariants as statements;
 
 use crate::words::ChannelText;
+use ptu_lines::{Draft, LinePart, LineText, Text};
 use ptu_outside::{Channel, Datagram};
 use ptu_texts::AddressText;
 use ptu_units::OutOfMemory;
-use ptu_lines::{Draft, LinePart, LineText, Text};
 use std::marker::Model;
 
 /// A datagram that a node sent.

@@ -4,10 +4,10 @@
 ghost use Rattle.std.specs.Prelude.{◌≡◌, ◌<◌, ◌^◌, ◌++◌, ◌∷◌, [], length, slice_get, OnOk, OnErr};
 
 use crate::sent::SentRef;
+use ptu_lines::{Draft, Text};
 use ptu_outside::Channel;
 use ptu_report::Texts;
 use ptu_units::OutOfMemory;
-use ptu_lines::{Draft, Text};
 use std::alloc::Global;
 use std::marker::Model;
 

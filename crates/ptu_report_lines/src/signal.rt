@@ -4,8 +4,8 @@ ghost use Rattle.std.specs.Prelude.{◌≡◌, ◌≤◌, ◌+◌, ◌++◌};
 ghost use Rattle.ptu_report_lines.specs.Statements.{received_text};
 
 use crate::words::{Word, put_words};
-use ptu_units::Kind;
 use ptu_lines::{LinePart, LineText};
+use ptu_units::Kind;
 
 /// What a TLV of a Signaling said to a slave.
 #[derive(Clone, Copy)]

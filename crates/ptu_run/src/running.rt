@@ -17,12 +17,12 @@ use crate::daemons::{run_serve, run_slave};
 use crate::status::{
     BAD_LINE, BROKEN_PROMISE, OUT_OF_MEMORY, SOURCE_FAULT, USAGE, audit_status, status_of,
 };
+use crate::{Command, read_words};
 use ptu_audit::audit;
 use ptu_lab::{Stock, load, replay, show};
 use ptu_outside::{Host, Sink, Source};
 use ptu_pool_run::pools;
 use ptu_show::join;
-use crate::{Command, read_words};
 use std::alloc::Global;
 use std::sync::Wait;
 use std::thread::Threads;

@@ -5,8 +5,8 @@ ghost use Rattle.ptu_run.specs.Daemons.{status_of_daemon};
 ghost use Rattle.ptu_run.specs.Run.{status_of_answer, status_of_audit, status_of_fault};
 
 use ptu_audit::{Answer, AuditFault};
-use ptu_report::RunFault;
 use ptu_outside::DaemonFault;
+use ptu_report::RunFault;
 
 /// The command line does not match the words.
 pub const USAGE: u8 = 64;

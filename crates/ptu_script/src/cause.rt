@@ -3,8 +3,7 @@
 ghost use Rattle.std.specs.Prelude.{◌≡◌, ◌≤◌, ◌+◌, ◌++◌, Some};
 ghost use Rattle.ptu_script.specs.Cause.{cause_text, cause_of_line};
 
-use ptu_lines::LineCause;
-use ptu_lines::{LinePart, LineText};
+use ptu_lines::{LineCause, LinePart, LineText};
 use std::error::Error;
 use std::fmt;
 

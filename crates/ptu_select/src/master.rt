@@ -4,8 +4,8 @@ ghost use Rattle.std.specs.Prelude.{◌≡◌};
 ghost use Rattle.ptu_select.specs.Candidate.{candidate_in};
 ghost use Rattle.ptu_select.specs.WatchState.{state_of};
 
-use crate::candidate::Candidate;
 use crate::Watch;
+use crate::candidate::Candidate;
 use ptu_units::Moment;
 
 /// A master under its watch, with its priority number.

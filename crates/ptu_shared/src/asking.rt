@@ -18,9 +18,9 @@ use crate::rates::{Rates, move_rate};
 use crate::table::Table;
 use ptu_admit::{Verdict, decide_all, decide_one};
 use ptu_history::Client;
+use ptu_messages::Ask;
 use ptu_outside::Port;
 use ptu_profile::GmConfig;
-use ptu_messages::Ask;
 use ptu_units::Moment;
 use std::sync::ledger::Ledger;
 

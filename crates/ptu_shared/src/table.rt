@@ -16,8 +16,8 @@ ghost use Rattle.ptu_shared.specs.{Delays.{IsLaterIfTooSoon}, Opening.{AreCounte
 use crate::place::Place;
 use crate::rates::Rates;
 use crate::tally::PortTally;
-use ptu_messages::Header;
 use ptu_history::Client;
+use ptu_messages::Header;
 use ptu_outside::Port;
 use ptu_profile::GmConfig;
 use ptu_shard::{Answered, Shard, Turned};

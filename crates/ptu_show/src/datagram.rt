@@ -7,12 +7,11 @@ ghost use Rattle.ptu_texts.specs.Texts.{identity_text};
 ghost use Rattle.ptu_show.specs.Datagram.{ask_text, body_text, message_text, stamp_text};
 ghost use Rattle.ptu_show.specs.{Datagram.{tlv_text, type_text}, Shown.{numbered_line}};
 
-use ptu_messages::{AnnounceBody, Body, Message};
+use ptu_lines::{Draft, LinePart, LineText, Text};
+use ptu_messages::{AnnounceBody, Ask, Body, Message, Tlv};
 use ptu_texts::{ClockText, IdentityText};
-use ptu_messages::{Ask, Tlv};
 use ptu_units::message_types::{ANNOUNCE, DELAY_REQ, DELAY_RESP, FOLLOW_UP, SIGNALING, SYNC};
 use ptu_units::{OutOfMemory, Stamp};
-use ptu_lines::{Draft, LinePart, LineText, Text};
 
 // The name of a messageType, or its number.
 #[derive(Clone, Copy)]

@@ -11,13 +11,12 @@ use crate::lines::ShowLine;
 use crate::reading::read_datagram;
 use ptu_lines::LineCause;
 use ptu_messages::{MessageFault, read_message};
-use ptu_units::u16_at;
 use ptu_outside::{Sink, Source};
 use ptu_report::{Reporter, Texts, run};
 use ptu_script::Cause;
 use ptu_texts::FaultText;
-use ptu_units::OutOfMemory;
 use ptu_units::sizes::LONGEST_DATAGRAM;
+use ptu_units::{OutOfMemory, u16_at};
 use std::alloc::Global;
 
 // Decodes each line for itself, in room for a datagram.

@@ -12,18 +12,16 @@ ghost use Rattle.ptu_show.specs.Generated.{log_by, number_after, request_of};
 ghost use Rattle.ptu_show.specs.Whole.{LoadsAreWhole};
 ghost use Rattle.ptu_show.specs.LoadSamples.{LinesAre, LinesAreCounted, LogarithmsAre, QuotientsAre};
 
-use ptu_messages::{Header, PortIdentity, flags};
-use ptu_messages::write_signaling;
+use crate::LabFault;
+use ptu_lines::{Draft, LineText, Text};
+use ptu_messages::{Ask, Header, PortIdentity, Tlv, flags, write_signaling};
 use ptu_outside::{Sink, write_whole};
 use ptu_report::RunFault;
-use crate::LabFault;
 use ptu_texts::OctetsText;
-use ptu_messages::{Ask, Tlv};
 use ptu_units::OutOfMemory;
 use ptu_units::message_types::SIGNALING;
 use ptu_units::sizes::LONGEST_SIGNALING;
 use ptu_units::timescale::NANOS_PER_SECOND;
-use ptu_lines::{Draft, LineText, Text};
 use std::alloc::Global;
 
 /// A line of the script that a load replays, with the 0A at its end.

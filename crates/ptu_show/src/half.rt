@@ -5,8 +5,7 @@ ghost use Rattle.ptu_messages.specs.Sent.{IsFixed};
 ghost use Rattle.ptu_show.specs.Halves.{has_two_steps, half_by, is_other, joined, key_of, joined_sync};
 ghost use Rattle.ptu_show.specs.Waiting.{IsHalf, IsHeaderOf};
 
-use ptu_messages::{Header, PortIdentity, flags};
-use ptu_messages::{Body, Message};
+use ptu_messages::{Body, Header, Message, PortIdentity, flags};
 use ptu_units::Stamp;
 
 /// What the halves of one Sync have in common.

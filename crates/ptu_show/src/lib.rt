@@ -15,6 +15,7 @@ mod lines;
 mod reading;
 mod waiting;
 
+pub use crate::LabFault;
 pub use decoding::show;
 pub use fault::{JoinFault, LabFault};
 pub use generating::{generate, put, sample_loads, whole_loads};
@@ -22,5 +23,4 @@ pub use joining::join;
 pub use laws::{joining_is_relation, sample_joins, sample_lines, two_steps_are_undone};
 pub use ptu_lines::LineCause;
 pub use ptu_script::Cause;
-pub use crate::LabFault;
 pub use reading::read_datagram;

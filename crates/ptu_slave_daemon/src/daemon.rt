@@ -15,8 +15,7 @@ use crate::opening::open_slave;
 use crate::rounds::run;
 use ptu_config::SlaveSettings;
 use ptu_judges::Stock;
-use ptu_outside::{Clock, Failed, Host, Opened, Port, Sink};
-use ptu_outside::DaemonFault;
+use ptu_outside::{Clock, DaemonFault, Failed, Host, Opened, Port, Sink};
 use ptu_units::OutOfMemory;
 use std::alloc::Global;
 

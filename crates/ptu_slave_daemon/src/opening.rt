@@ -10,8 +10,8 @@ ghost use Rattle.ptu_slave_daemon.specs.Running.{Stands};
 ghost use Rattle.ptu_slave.specs.{Seen.{HasJudges}, SeenBy.{seen_by}};
 
 use ptu_config::{MasterSetting, SlaveSettings};
-use ptu_messages::PortIdentity;
 use ptu_judges::{Judge, NAMED_GAP, Rule, Stock};
+use ptu_messages::PortIdentity;
 use ptu_outside::Port;
 use ptu_record::Wants;
 use ptu_slave::{Master, Slave, SlaveConfig};

@@ -9,8 +9,7 @@ ghost use Rattle.ptu_slave_daemon.specs.Happenings.{SlaveHappening, Stops, Ticks
 ghost use Rattle.ptu_slave_daemon.specs.Running.{Counted, CountsGrow, IsFew, SlaveRan, Stands, SlaveTook, sees};
 
 use crate::counts::Counts;
-use ptu_outside::{Clock, Port, Reply};
-use ptu_outside::last_moment;
+use ptu_outside::{Clock, Port, Reply, last_moment};
 use ptu_slave::{Heard, Slave};
 use ptu_units::{Moment, OutOfMemory};
 use std::alloc::Global;

@@ -1,8 +1,7 @@
 //! What a slave keeps of a message that it accepts.
 
 use crate::signal::SignalList;
-use ptu_messages::PortIdentity;
-use ptu_messages::TlvList;
+use ptu_messages::{PortIdentity, TlvList};
 
 /// What a slave needs of a message that it takes.
 #[derive(Drop)]

@@ -11,10 +11,9 @@ use crate::content::{Accepted, Content};
 use crate::reason::SlaveReason;
 use crate::signal::{Signal, SignalList};
 use crate::sorting::sender;
-use ptu_messages::{Body, Message, MessageFault, TlvList, read_message};
+use ptu_messages::{Body, Message, MessageFault, Tlv, TlvList, read_message};
 use ptu_profile::{Master, SlaveConfig};
 use ptu_record::Wants;
-use ptu_messages::Tlv;
 use ptu_units::{Kind, OutOfMemory};
 use std::alloc::{AllocError, Global};
 

@@ -13,11 +13,9 @@ ghost use Rattle.ptu_profile.specs.Slave.{slave_header};
 use crate::kinds::Kinds;
 use crate::plan::{StopPlan, TickPlan};
 use crate::signaling::{ALL_ONES, delay_req, put_cancels, put_requests};
-use ptu_messages::PortIdentity;
-use ptu_messages::{write_fixed, write_signaling};
+use ptu_messages::{PortIdentity, Tlv, write_fixed, write_signaling};
 use ptu_outside::{Channel, Port, Reply, Sends, hand};
 use ptu_profile::SlaveConfig;
-use ptu_messages::Tlv;
 use ptu_units::message_types::SIGNALING;
 use ptu_units::sizes::LONGEST_SIGNALING;
 

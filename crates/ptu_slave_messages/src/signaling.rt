@@ -6,11 +6,9 @@ ghost use Rattle.ptu_record.specs.Tick.{DelayReq};
 ghost use Rattle.ptu_slave_messages.specs.Sending.{all_ones, cancel_of, kinds_in, message_of, request_of};
 
 use crate::kinds::Kinds;
-use ptu_messages::PortIdentity;
-use ptu_messages::{Body, Message};
+use ptu_messages::{Ask, Body, Message, PortIdentity, Tlv};
 use ptu_profile::SlaveConfig;
 use ptu_record::Wants;
-use ptu_messages::{Ask, Tlv};
 use ptu_units::message_types::DELAY_REQ;
 use ptu_units::{Kind, Stamp};
 

@@ -6,8 +6,7 @@ ghost use Rattle.ptu_slave_messages.specs.Reception.{is_delay_req, is_for, is_ta
 
 use crate::reason::SlaveReason;
 use crate::signaling::ALL_ONES;
-use ptu_messages::PortIdentity;
-use ptu_messages::{Body, Message};
+use ptu_messages::{Body, Message, PortIdentity};
 use ptu_profile::{Master, SlaveConfig};
 
 // The place of the master that has the address.

@@ -3,10 +3,8 @@
 ghost use Rattle.std.specs.Prelude.{◌≡◌, ◌≤◌, ◌+◌, ◌++◌};
 ghost use Rattle.ptu_texts.specs.Faults.{fault_text, header_fault_text, tlv_fault_text};
 
-use ptu_messages::HeaderFault;
-use ptu_messages::MessageFault;
-use ptu_messages::TlvFault;
 use ptu_lines::{LinePart, LineText};
+use ptu_messages::{HeaderFault, MessageFault, TlvFault};
 
 /// Why octets spell no message: one word for the fault, and its numbers. `MessageFault` itself
 /// prints a sentence.

@@ -3,9 +3,9 @@
 ghost use Rattle.std.specs.{Prelude.{◌≡◌, ◌≤◌, ◌+◌, ◌++◌, Some}, Fmt.{signed_decimal}};
 ghost use Rattle.ptu_texts.specs.Texts.{address_text, clock_text, identity_text, kind_text};
 
+use ptu_lines::{LinePart, LineText};
 use ptu_messages::PortIdentity;
 use ptu_units::{Kind, Log};
-use ptu_lines::{LinePart, LineText};
 use std::fmt;
 
 /// An IPv4 address, in dotted decimal.

@@ -3,8 +3,8 @@
 ghost use Rattle.std.specs.Prelude.{◌≡◌, ◌++◌, OnOk};
 ghost use Rattle.hex.specs.Hex.{encode_lower};
 
-use ptu_units::OutOfMemory;
 use ptu_lines::{Draft, Text};
+use ptu_units::OutOfMemory;
 
 /// Octets, as two hexadecimal digits in lower case each.
 #[derive(Clone, Copy)]

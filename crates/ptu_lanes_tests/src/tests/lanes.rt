@@ -5,10 +5,10 @@ ghost use Rattle.ptu_shared.specs.{Blanks.{IsBlankOf}, Opening.{idle_port, sampl
 use ptu_admit::{Closed, Verdict};
 use ptu_history::Client;
 use ptu_lanes::{Control, Delays, control_round, delay_round, turn_round};
+use ptu_messages::Ask;
 use ptu_outside::{Arrival, Channel, Datagram, MemClock, MemPort, Sends, samples};
 use ptu_shard::samples::{CONFIG, ONE, TWO, ZERO};
 use ptu_shared::{Rates, Seat, Shared};
-use ptu_messages::Ask;
 use ptu_units::Moment;
 use std::alloc::Global;
 use std::marker::Brand;

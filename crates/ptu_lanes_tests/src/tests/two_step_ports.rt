@@ -1,8 +1,8 @@
 ghost use Rattle.std.specs.Prelude.{◌≡◌, None};
 
+use ptu_daemon::{TwoHost, TwoStep};
 use ptu_outside::samples::{idle_port, opened_with};
 use ptu_outside::{Channel, Failed, Host, MemHost, MemPort, Port};
-use ptu_daemon::{TwoHost, TwoStep};
 use ptu_units::Moment;
 use ptu_units::sizes::LONGEST_DATAGRAM;
 use std::alloc::Global;

@@ -5,11 +5,11 @@ ghost use Rattle.ptu_shared.specs.{Blanks.{IsBlankOf}, Opening.{idle_port, sampl
 use ptu_admit::samples::{Told, numbers_of};
 use ptu_admit::{Closed, Outside};
 use ptu_history::Client;
+use ptu_messages::Ask;
 use ptu_outside::{MemPort, Port, samples};
 use ptu_shard::Answered;
 use ptu_shard::samples::{CONFIG, DELAY_REQ, SECOND, THREE, TWO};
 use ptu_shared::{CloseFault, Rates, Seat, Shared};
-use ptu_messages::Ask;
 use ptu_units::{Kind, Moment};
 use std::alloc::Global;
 use std::marker::Brand;

@@ -1,8 +1,7 @@
 ghost use Rattle.std.specs.Prelude.{◌≡◌, ◌<◌, ◌^◌, length};
 
-use ptu_select::WatchState;
 use ptu_record::Quality;
-use ptu_select::Selector;
+use ptu_select::{Selector, WatchState};
 use ptu_units::Moment;
 use std::alloc::Global;
 use std::process::Abort;

@@ -3,9 +3,9 @@ ghost use Rattle.std.specs.Prelude.{◌≡◌, All, IfOk, length};
 ghost use Rattle.ptu_judges.specs.Held.{IsFresh};
 ghost use Rattle.ptu_slave.specs.{Kept.{IsSame}, Seen.{seen}, SeenBy.{seen_by}};
 
-use ptu_messages::PortIdentity;
 use ptu_judges::samples::OwnJudge;
 use ptu_judges::{GapJudge, Judge};
+use ptu_messages::PortIdentity;
 use ptu_outside::MemPort;
 use ptu_outside::samples::idle_port;
 use ptu_record::Wants;

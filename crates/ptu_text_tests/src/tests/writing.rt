@@ -1,6 +1,6 @@
+use ptu_lines::{Draft, LinePart, LineText};
 use ptu_texts::LogText;
 use ptu_units::{Kind, Log};
-use ptu_lines::{Draft, LinePart, LineText};
 use std::test::Fail;
 
 #[test]

@@ -1,10 +1,9 @@
 ghost use Rattle.std.specs.Prelude.{◌≡◌, pos};
 
-use ptu_messages::{Header, HeaderFault, PortIdentity};
 use ptu_messages::{
-    AnnounceBody, Body, Message, MessageFault, TlvList, read_message, write_fixed, write_signaling,
+    AnnounceBody, Body, Header, HeaderFault, Message, MessageFault, PortIdentity, TlvFault,
+    TlvList, read_message, write_fixed, write_signaling,
 };
-use ptu_messages::TlvFault;
 use ptu_units::Stamp;
 use std::alloc::Global;
 use std::process::Abort;
