@@ -78,7 +78,7 @@ ask_at_expiry =
     ∷ (seconds 62, Turn 2)
     ∷ []
 
--- turn_events round the first moment of a Sync, and late ones
+-- turns round the first moment of a Sync, and late ones
 abbrev pub late_turns : List (ℕ × Event)
 late_turns =
     (0, Request first_client (ask_of Sync (pos 0)))
@@ -220,6 +220,6 @@ abbrev pub turn_events : List ℕ → List (ℕ × Event)
 turn_events [] = []
 turn_events (n ∷ ns) = (seconds n, Turn 2) ∷ turn_events ns
 
--- a Sync a second, and turn_events at these seconds
+-- a Sync a second, and turns at these seconds
 abbrev pub sync_and_turns : List ℕ → List (ℕ × Event)
 sync_and_turns ns = (0, Request first_client (ask_of Sync (pos 0))) ∷ turn_events ns

@@ -10,7 +10,7 @@ use Rattle.ptu_messages.specs.declared.message.Message.{Message}
 use Rattle.ptu_messages.specs.declared.fault.MessageFault.TheVariants as faults
 use Rattle.ptu_messages.specs.{Reading.{message_in}, Sent.{sent_message}}
 
--- port 1 of a sample_client and of a grandmaster
+-- port 1 of a client and of a grandmaster
 abbrev pub sample_client : PortIdentity
 sample_client = record { clock = 0x0a00000000000011; port = 1 }
 
@@ -70,7 +70,7 @@ announced =
       });
     }
 
--- a Signaling of n octets from the sample_client to the grandmaster, with these TLVs
+-- a Signaling of n octets from the client to the grandmaster, with these TLVs
 abbrev pub to_grandmaster : ℕ → List ℕ → List ℕ
 to_grandmaster n values = octets_before 12 n ++ client_octets ++ 0x00 ∷ 0x00 ∷ 0x05 ∷ 0x7f ∷ [] ++ grandmaster_octets ++ values
 

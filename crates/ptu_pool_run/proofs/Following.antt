@@ -131,7 +131,7 @@ module _ (script : List ℕ) (p : Sold script) (apart : AreApart (p.told).pools)
   datagram line t from octets inside = record {
     after = told_more line (Came t from octets);
     texts = map pool_line_text (lines_of_event p.setup pools before line (Came t from octets));
-    told_after = at_pools (p.told).setup pools (happened p.told line (Came t from octets)) p.setup p.place p.pool p.is_set_up p.is_sold;
+    step = at_pools (p.told).setup pools (happened p.told line (Came t from octets)) p.setup p.place p.pool p.is_set_up p.is_sold;
     history = goes line (Came t from octets) (ap (λ o. option_map_or (is_in from) o false) p.is_sold ∙ inside);
   }
 
@@ -145,7 +145,7 @@ module _ (script : List ℕ) (p : Sold script) (apart : AreApart (p.told).pools)
   turn line t table = record {
     after = told_more line (Turned t p.place table);
     texts = map pool_line_text (lines_of_event p.setup pools before line (Turned t p.place table));
-    told_after = at_pools (p.told).setup pools (turned p.told line t (p.place + 1) table) p.setup p.place p.pool p.is_set_up p.is_sold ∙ turn_taken line t table;
+    step = at_pools (p.told).setup pools (turned p.told line t (p.place + 1) table) p.setup p.place p.pool p.is_set_up p.is_sold ∙ turn_taken line t table;
     history = goes line (Turned t p.place table) (eq-eqb p.place p.place refl);
   }
 

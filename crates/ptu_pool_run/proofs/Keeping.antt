@@ -1,4 +1,4 @@
--- What a script says is sound, and its output is that of the pool_rules.
+-- What a script says is sound, and its output is that of the rules.
 use Rattle.std.proofs.Common.{◌≡◌, ◌∙◌, ℕ, ◌+◌, ◌-◌, Bool, true, false, cond, leb, List, [], ◌∷◌, ◌++◌, length, map, Option, Some, None, Result, Ok, Err, refl, sym, ap, subst, append_assoc}
 use Rattle.std.proofs.lemmas.List.{append-nil, map-append}
 use Rattle.ptu_lines.specs.Script.{ScriptLine, Whole, Refused, script_lines}

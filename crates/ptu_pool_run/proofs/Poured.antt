@@ -1,4 +1,4 @@
--- What was put for the pool_rules is the output on a script.
+-- What was put for the rules is the output on a script.
 use Rattle.std.proofs.Common.{ℕ, List, Option, Result, subst}
 use Rattle.ptu_lines.specs.Script.{script_lines}
 use Rattle.ptu_outside.specs.Handing.{HasPut}

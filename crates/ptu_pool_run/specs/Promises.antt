@@ -91,7 +91,7 @@ past p = history_of p.setup p.told p.place
 pub record GoesOnInPool {script : List ℕ} (p : Sold script) (line : ℕ) (command : PoolCommand) (events : List (ℕ × Event)) : Type 0 where
   pub after : Told
   pub texts : List (List ℕ)
-  pub told_after : told_after p.told line command ≡ Goes after texts
+  pub step : told_after p.told line command ≡ Goes after texts
   pub history : history_of p.setup after p.place ≡ history_after (opened_with (p.pool).capacity (setup_config p.setup)) (past p) events
 
 -- the place of the pool that a command hands something to
@@ -129,7 +129,7 @@ pub record IsAnsweredByPool {script : List ℕ} (p : Sold script) (line : ℕ) (
   pub after : Told
   pub before : List Tlv
   pub behind : List Tlv
-  pub told_after : told_after p.told line (commands.Receive r.handed.at r.handed.from r.handed.octets)
+  pub step : told_after p.told line (commands.Receive r.handed.at r.handed.from r.handed.octets)
       ≡ Goes after (pool_line_text (sent_line line (p.place + 1) (reply_to (setup_config p.setup) r.handed.from r.header (before ++ answer_by r.ask (decision r) ∷ behind))) ∷ [])
   pub place : length before ≡ length r.before
   pub all : length (before ++ answer_by r.ask (decision r) ∷ behind) ≡ length (r.before ++ items.Request r.ask ∷ r.behind)
@@ -178,7 +178,7 @@ pub record SendsInTimeToPools (script : List ℕ) : Type 0 where
 -- ---- all
 
 pub record KeepsPools (script : List ℕ) : Type 0 where
-  -- the output is that of the pool_rules: each line's own, up to the first that is refused
+  -- the output is that of the rules: each line's own, up to the first that is refused
   pub by_rules : texts_of pool_rules none_told (script_lines script) ≡ poured_texts script
   -- what is written of a pool is what the core does with the pool's own events, whatever else the script says
   pub own : (i : ℕ) → let told = told_in script in

@@ -1,4 +1,4 @@
--- What the lines of a script of pools say, and why one is refused, as pool_rules of a program over lines (the project's own choice).
+-- What the lines of a script of pools say, and why one is refused, as rules of a program over lines (the project's own choice).
 use Rattle.std.specs.Prelude.{ℕ, ◌-◌, nat_le, if◌then◌else◌, List, [], ◌∷◌, ◌++◌, length, map, Option, Some, None, Result, Ok, Err}
 use Rattle.ptu_report.specs.Rules.{Rules, Outcome, Goes, Refuses}
 use Rattle.ptu_script.specs.declared.cause.Cause.{Cause}
@@ -79,7 +79,7 @@ told_outcome told line (Err cause) = Refuses (cause_of_script cause)
 -- what the program does: with each line, at the end, and with a line that is refused
 unfoldable pub pool_rules : Rules Told PoolCause
 pool_rules = record {
-  told_after = λ told number line. told_outcome told number (pool_command_of line);
+  step = λ told number line. told_outcome told number (pool_command_of line);
   close = λ told lines. Goes told (pool_line_text (End lines) ∷ []);
   refusal = λ number cause. pool_line_text (Bad number cause);
   cause_of = pool_cause_of_line;

@@ -29,7 +29,7 @@ pool_sends pool to hex = pool ++ (codes " send general " ++ (to ++ (codes " " ++
 
 -- ---- requests: two fill their own pools, one does not fit in the first, and one comes from nobody's address
 
--- of another client, an ask_digits for Announces at the logarithm 4 for 300 s, and its denial
+-- of another client, an ask for Announces at the logarithm 4 for 300 s, and its denial
 abbrev pub ask_of_other : List ℕ
 ask_of_other = codes "0c120036040004000000000000000000000000000a0000000000001200010000057fffffffffffffffffffff00040006b0040000012c"
 

@@ -179,7 +179,7 @@ module _ {K : Type 0} (written : K → Option (List ℕ)) (handed : K → Option
     pub line : status ≡ 0 → written new ≡ append_known (written old) (summary number)
     pub front : HasPutPart written handed old new (summary number ∷ [])
 
-  -- an audit with this first_reading capacity ended with the status of an answer
+  -- an audit with this first capacity ended with the status of an answer
   pub record HasAudited {H : Type 0} (host host' : H) (left left' : Option (List ℕ)) (capacity status : ℕ) : Type 0 where
     pub answer : Result Answer (RunFault AuditCause)
     pub status_is : status ≡ status_of_audit answer

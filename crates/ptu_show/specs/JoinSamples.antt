@@ -10,7 +10,7 @@ use Rattle.ptu_show.specs.declared.half.{Half.{Half}, Part.TheVariants.{Sync, Fo
 use Rattle.ptu_show.specs.{Halves.{half_in, joined, key_of}, Joins.{partner, waiting, waiting_keys}}
 use Rattle.ptu_show.specs.Joined.{joined_ending, joined_output, text_behind}
 
--- a header of this messageType with these flags and this correctionField, from the sample_client
+-- a header of this messageType with these flags and this correctionField, from the client
 abbrev pub sample_header : ℕ → ℕ → ℤ → Header
 sample_header message_type flags correction = record {
   message_type = message_type;

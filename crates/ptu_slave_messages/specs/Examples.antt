@@ -10,12 +10,12 @@ use Rattle.ptu_profile.specs.declared.slave.{Master.{Master}, SlaveConfig.{Slave
 use Rattle.ptu_slave_messages.specs.declared.reason.SlaveReason.TheVariants as reasons
 use Rattle.ptu_slave_messages.specs.{Reception.{reception}, Sending.{all_ones, message_of}}
 
--- a sample_slave that requests Announce at logarithm 1 and Sync at logarithm 0 for 300 s
+-- a slave that requests Announce at logarithm 1 and Sync at logarithm 0 for 300 s
 abbrev pub sample_slave : SlaveConfig
 sample_slave = record {
   identity = record { clock = 0x0a00000000000011; port = 1 };
   domain = 4;
-  wants = record { announce = pos 1; sync_octets = pos 0; delay = None; seconds = 300 };
+  wants = record { announce = pos 1; sync = pos 0; delay = None; seconds = 300 };
   announce_timeout = 3;
   sync_timeout = 3;
   delay_timeout = 3;
@@ -29,7 +29,7 @@ sample_masters = record { ip = 0x0a000001; priority = 1 } ∷ record { ip = 0x0a
 abbrev pub sample_grandmaster : PortIdentity
 sample_grandmaster = record { clock = 0x0a00000000000001; port = 1 }
 
--- the octets of a header_octets: messageType, messageLength, clock, sequenceId and controlField
+-- the octets of a header: messageType, messageLength, clock, sequenceId and controlField
 abbrev pub header_octets : ℕ → ℕ → ℕ → ℕ → ℕ → List ℕ
 header_octets message_type length clock sequence control =
     message_type ∷ 0x12 ∷ 0x00 ∷ length ∷ 0x04 ∷ 0x00 ∷ 0x04 ∷ 0x00 ∷ replicate 12 0
@@ -55,7 +55,7 @@ DatagramsAreSent =
 abbrev pub sync_octets : List ℕ
 sync_octets = header_octets 0 44 0x01 0 0 ++ replicate 10 0
 
--- a Delay_Resp of the first master to this sample_slave
+-- a Delay_Resp of the first master to this slave
 abbrev pub delay_resp_octets : List ℕ
 delay_resp_octets =
     header_octets 9 54 0x01 0 3 ++ replicate 10 0 ++ 0x0a ∷ 0x00 ∷ 0x00 ∷ 0x00 ∷ 0x00 ∷ 0x00 ∷ 0x00 ∷ 0x11 ∷ 0x00 ∷ 0x01 ∷ []

@@ -25,7 +25,7 @@ pub fn short_scripts()
     ensures no_judge { report no_judges (script_of (slave_line
         ∷ codes "master 10.0.1.17 10.0.0.1 1 flag" ∷ []))
         ≡ lines_of (codes "2 bad stock" ∷ []) }
-    ensures judge_taken { report (record { flags = 1; gaps_script = 0 }) (script_of (slave_line
+    ensures judge_taken { report (record { flags = 1; gaps = 0 }) (script_of (slave_line
         ∷ codes "master 10.0.1.17 10.0.0.1 1 flag" ∷ codes "judge 0 10.0.1.17 10.0.0.1 flag" ∷ []))
         ≡ lines_of (codes "3 bad stock" ∷ []) }
     ensures master_before_judge { report no_judges (script_of (slave_line
