@@ -1,7 +1,6 @@
 //! A grandmaster with the port of its event channel and its clock, and the rounds that it does.
 
-ghost use Rattle.std.specs.Prelude.{◌≡◌, ◌<◌, ◌+◌, ◌^◌, ◌∷◌, [], true, IfOk, IfSome};
-ghost use Rattle.ptu_units.specs.Limits.{IsCapacity};
+ghost use Rattle.std.specs.Prelude.{◌≡◌, ◌<◌, ◌+◌, ◌^◌, ◌∷◌, [], true, IfOk};
 ghost use Rattle.ptu_grandmaster.specs.declared.driving.GmEvent.{GmEvent};
 ghost use Rattle.ptu_config.specs.{Limits.{IsGmInRange}, Rounds.{all_rounds}};
 ghost use Rattle.ptu_daemon.specs.Events.{change_in, change_to, taking, turns};
@@ -13,8 +12,8 @@ use crate::tally::Tally;
 use ptu_config::GmSettings;
 use ptu_grandmaster::{Gm, SIGNALING_PORT};
 use ptu_outside::{Channel, Clock, Failed, Port, last_moment};
-use ptu_units::OutOfMemory;
 use ptu_units::sizes::LONGEST_DATAGRAM;
+use ptu_units::{Capacity, OutOfMemory};
 
 /// How many datagrams of a channel a round takes at most.
 const MOST: u32 = 64;
@@ -30,11 +29,9 @@ pub(crate) struct Daemon<P: Port, C: Clock> {
 }
 
 // The capacity to which a round changes, before which there were so many, if it changes it.
-fn change_before(settings: &GmSettings, before: u64) -> Option<u64>
-    requires range { IsGmInRange settings.now }
+fn change_before(settings: &GmSettings, before: u64) -> Option<Capacity>
     requires before { before + 1 < 2 ^ 64 }
     ensures change { change_in settings.now before ≡ change_to true result }
-    ensures range { IfSome result (λ capacity. IsCapacity capacity) }
 {
     if settings.change_round as u64 == before + 1 {
         settings.new_capacity
@@ -96,8 +93,7 @@ impl<P: Port, C: Clock> Daemon<P, C> {
     }
 
     // Changes the capacity at a new moment.
-    fn change(&mut self, capacity: u64) -> Result<Tally, OutOfMemory>
-        requires { IsCapacity capacity }
+    fn change(&mut self, capacity: Capacity) -> Result<Tally, OutOfMemory>
         ensures ran { IfOk result (λ tally. Ran P.Port C.Clock self.old self.new
             ((λ t. GmEvent.Capacity t capacity) ∷ []) [] [] tally.sent tally.failed 0) }
         ensures small { IfOk result (λ tally. IsSmall 1 tally) }
@@ -109,7 +105,6 @@ impl<P: Port, C: Clock> Daemon<P, C> {
     // Begins a round, before which there were so many, with the change of the capacity where it is
     // the one for it.
     fn begin(&mut self, settings: &GmSettings, before: u64) -> Result<Tally, OutOfMemory>
-        requires range { IsGmInRange settings.now }
         requires before { before + 1 < 2 ^ 64 }
         ensures ran { IfOk result (λ tally. Ran P.Port C.Clock self.old self.new
             (change_in settings.now before) [] [] tally.sent tally.failed 0) }
@@ -181,7 +176,6 @@ impl<P: Port, C: Clock> Daemon<P, C> {
 
     // Does a round, before which there were so many.
     fn round(&mut self, settings: &GmSettings, before: u64) -> Result<Tally, OutOfMemory>
-        requires range { IsGmInRange settings.now }
         requires before { before + 1 < 2 ^ 64 }
         ensures did { IfOk result (λ tally.
             DidRound P.Port C.Clock settings.now before self.old self.new tally) }

@@ -1,7 +1,6 @@
 //! Events of a grandmaster, with what was sent by each.
 
 ghost use Rattle.std.specs.Prelude.{◌≡◌, ◌<◌, IfOk};
-ghost use Rattle.ptu_units.specs.Limits.{IsCapacity};
 ghost use Rattle.ptu_grandmaster.specs.declared.driving.GmEvent.{GmEvent};
 ghost use Rattle.ptu_daemon.specs.{Counting.{failed_for, sent_for}, Ran.{Does, IsSmall}};
 
@@ -9,7 +8,7 @@ use crate::tally::Tally;
 use ptu_grandmaster::{Gm, Reply, Taken};
 use ptu_outside::Port;
 use ptu_shard::Answered;
-use ptu_units::{Moment, OutOfMemory};
+use ptu_units::{Capacity, Moment, OutOfMemory};
 
 /// The table of this index, from 0 to 3, takes a turn.
 pub(crate) fn turn<P: Port>(gm: &mut Gm<P>, at: Moment, table: usize) -> Tally
@@ -24,13 +23,12 @@ pub(crate) fn turn<P: Port>(gm: &mut Gm<P>, at: Moment, table: usize) -> Tally
     }
 }
 
-/// The capacity in force changes to this many sixteenths of a message per second.
+/// The capacity in force changes to this one.
 pub(crate) fn change<P: Port>(
     gm: &mut Gm<P>,
     at: Moment,
-    capacity: u64,
+    capacity: Capacity,
 ) -> Result<Tally, OutOfMemory>
-    requires { IsCapacity capacity }
     ensures does { IfOk result (λ tally.
         Does P.Port gm.old gm.new (GmEvent.Capacity at capacity) tally.sent tally.failed) }
     ensures small { IfOk result (λ tally. IsSmall 1 tally) }

@@ -2,7 +2,6 @@
 
 ghost use Rattle.std.specs.Prelude.{◌≡◌, ◌≤◌, ◌∷◌, [], IfOk, IfErr, OnOk, OnErr};
 ghost use Rattle.ptu_outside.specs.{Faults.{HasRisen}, Handing.{HasPut, HasPutFront}};
-ghost use Rattle.ptu_profile.specs.Grandmaster.{IsWithinLimits};
 ghost use Rattle.ptu_config.specs.{Limits.{IsGmInRange}, Rounds.{all_rounds}};
 ghost use Rattle.ptu_lanes.specs.Served.{numbers_of};
 ghost use Rattle.ptu_daemon.specs.{Answers.{HasAnswered}, Events.{config_of}};
@@ -38,14 +37,12 @@ fn closing_of(settings: &GmSettings, totals: &Totals) -> Closing
 
 // How the grandmaster is set up.
 fn config(settings: &GmSettings) -> GmConfig
-    requires { IsGmInRange settings.now }
-    ensures is { result ≡ config_of settings.now }
-    ensures limits { IsWithinLimits result }
+    ensures { result ≡ config_of settings.now }
 {
     GmConfig {
         identity: PortIdentity {
             clock: settings.clock,
-            port: settings.port,
+            port: settings.port.get(),
         },
         domain: settings.domain,
         class: settings.class,
@@ -143,7 +140,7 @@ fn serve_over<P: Port + Send, C: Clock + Send, W: Threads + Wait + Sync>(
     ensures by_lanes { IfOk result (λ r. 1 ≤ settings.now.senders
         → ServesEitherWay P.Port C.Clock settings.now opened r.0 (said_by r.1)) }
 {
-    if settings.senders == 0 {
+    if settings.senders.get() == 0 {
         serve_rounds(alloc, settings, opened)
     } else {
         serve_by_lanes(rt, alloc, threads, settings, opened)
@@ -185,7 +182,8 @@ pub fn serve_within<W: Threads + Wait + Sync, H: Host, K: Sink>(
     // It stands on what it stood on.
     ensures name { H.name host.new ≡ H.name host.old }
 {
-    let Ok(opened) = host.open(settings.ip, settings.event_port, settings.general_port) else {
+    let (event, general) = (settings.event_port.get(), settings.general_port.get());
+    let Ok(opened) = host.open(settings.ip, event, general) else {
         return Err(DaemonFault::Open);
     };
     let (back, closing) = serve_over(rt, alloc, threads, settings, opened)?;

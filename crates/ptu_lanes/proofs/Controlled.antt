@@ -21,7 +21,7 @@ use Rattle.ptu_lanes.specs.declared.{lanes.Lanes.{Lanes}, serving.Totals.{Totals
 use Rattle.ptu_lanes.specs.Crew.{LanesServed, ServedSignaling}
 use Rattle.ptu_lanes.specs.Rounds.{Exchange, Exchanged, IsAnswered, answers_of, asks_in, datagrams, grants_in, items_of, replies}
 use Rattle.ptu_lanes.specs.{Sending.{GoesOn, WasSent}, Waiting.{PassedBy}}
-use Rattle.ptu_lanes.specs.Changing.{change_moments, change_of, early_rounds, greatest_capacity, last_capacity, moments_to, rounds_before}
+use Rattle.ptu_lanes.specs.Changing.{change_moments, change_of, early_rounds, peak_capacity, last_capacity, moments_to, rounds_before}
 use Rattle.ptu_lanes.specs.Served.{ExchangedAll, IsControlled, ServesByLanes, TablesAreBack, TablesSent, TablesSentLawfully, numbers_of, replies_around, seen_at, waits_of}
 use Rattle.ptu_lanes.specs.Stretches.{AreRounds, CountsFailures, TookSignaling}
 use Rattle.ptu_lanes.proofs.{Exchanges.{exchanges_more}, Handing.{handed-append, handed_of}, Moments.{passed-append, passed_as}}
@@ -60,7 +60,7 @@ no_change None = refl
 no_change (Some capacity) = tt
 
 controlled_unchanged : {P : Type 0} (ports : Ports P) (settings : GmSettings) (config : GmConfig) (port port' : P) (left : List Arrival) (old new : SeatCounts) →
-    change_of settings ≡ None → old ≡ no_verdicts → AreRounds ports (greatest_capacity settings) config (all_rounds settings) port port' left old new →
+    change_of settings ≡ None → old ≡ no_verdicts → AreRounds ports (peak_capacity settings) config (all_rounds settings) port port' left old new →
     IsControlled ports settings config port port' left new.granted new.refused
 controlled_unchanged ports settings config port port' left old new none fresh r =
     let all : r.exchanges ++ [] ≡ r.exchanges = append-nil r.exchanges in
@@ -78,7 +78,7 @@ controlled_unchanged ports settings config port port' left old new none fresh r 
       all_are = ap datagrams all ∙ r.first;
       rest = r.rest;
       unchanged = no_change (change_of settings);
-      answered = subst (All (IsAnswered (greatest_capacity settings) config)) (sym all) r.answered;
+      answered = subst (All (IsAnswered (peak_capacity settings) config)) (sym all) r.answered;
       told = subst (λ ds. WasSent ports port port' ds) (sym sent) r.told;
       goes_on = subst (λ ds. GoesOn ports port port' ds) (sym sent) r.goes_on;
       granted_are = let g = r.granted in omega (arith, granted, g, ap grants_in all);
@@ -86,7 +86,7 @@ controlled_unchanged ports settings config port port' left old new none fresh r 
     }
 
 pub unchanged_controlled : {P : Type 0} (ports : Ports P) (settings : GmSettings) (config : GmConfig) (port port' : P) (old new : SeatCounts) →
-    change_of settings ≡ None → old ≡ no_verdicts → IfSome (ports.waiting port') (λ later. AreRounds ports (greatest_capacity settings) config (all_rounds settings) port port' later old new) →
+    change_of settings ≡ None → old ≡ no_verdicts → IfSome (ports.waiting port') (λ later. AreRounds ports (peak_capacity settings) config (all_rounds settings) port port' later old new) →
     IfSome (ports.waiting port') (λ later. IsControlled ports settings config port port' later new.granted new.refused)
 unchanged_controlled ports settings config port port' old new none fresh r =
     some_more (ports.waiting port') _ _ (λ left. controlled_unchanged ports settings config port port' left old new none fresh) r
@@ -104,12 +104,12 @@ some_change (Some more) capacity shed is = tt
 controlled_some : {P : Type 0} (ports : Ports P) (settings : GmSettings) (config : GmConfig) (capacity e l : ℕ) (shed : List (Client × Kind)) (p0 p1 p2 p3 : P) (left : List Arrival)
     (old seat new : SeatCounts) (sent failed : ℕ) →
     change_of settings ≡ Some capacity → e ≡ settings.change_round - 1 → e + l ≡ (all_rounds settings) → old ≡ no_verdicts →
-    IfSome (ports.waiting p1) (λ later. AreRounds ports (greatest_capacity settings) config e p0 p1 later old seat) →
+    IfSome (ports.waiting p1) (λ later. AreRounds ports (peak_capacity settings) config e p0 p1 later old seat) →
     HandsOver ports p1 p2 (cancels_to config 0 shed) sent failed → ¬ HasRisen (ports.faults p1) (ports.faults p2) →
-    AreRounds ports (greatest_capacity settings) config l p2 p3 left seat new →
+    AreRounds ports (peak_capacity settings) config l p2 p3 left seat new →
     IsControlled ports settings config p0 p3 left new.granted new.refused
 controlled_some ports settings config capacity e l shed p0 p1 p2 p3 left old seat new sent failed some early_is all_is fresh early hands still q =
-    let p = told_is (ports.waiting p1) (λ later. AreRounds ports (greatest_capacity settings) config e p0 p1 later old seat) q.waited (sym hands.waiting ∙ q.all) early in
+    let p = told_is (ports.waiting p1) (λ later. AreRounds ports (peak_capacity settings) config e p0 p1 later old seat) q.waited (sym hands.waiting ∙ q.all) early in
     let none : failed ≡ 0 = none_failed failed (ports.faults p1) (ports.faults p2) hands.risen still in
     let granted : old.granted ≡ 0 = ap (λ (c : SeatCounts). c.granted) fresh in
     let refused : old.refused ≡ 0 = ap (λ (c : SeatCounts). c.refused) fresh in
@@ -126,7 +126,7 @@ controlled_some ports settings config capacity e l shed p0 p1 p2 p3 left old sea
           ∙ ap (λ ys. take (64 * e) p.waited ++ ys) later ∙ take_rounds (all_rounds settings) e l p.waited all_is;
       rest = q.rest ∙ ap (drop (64 * l)) same ∙ drop_rounds (all_rounds settings) e l p.waited all_is;
       unchanged = some_change (change_of settings) capacity shed some;
-      answered = All-append (IsAnswered (greatest_capacity settings) config) p.exchanges q.exchanges p.answered q.answered;
+      answered = All-append (IsAnswered (peak_capacity settings) config) p.exchanges q.exchanges p.answered q.answered;
       told = told_both (ports.sent p0) (ports.sent p2) (ports.sent p3) (replies config p.exchanges ++ cancels_to config 0 shed) (replies config q.exchanges)
           (told_both (ports.sent p0) (ports.sent p1) (ports.sent p2) (replies config p.exchanges) (cancels_to config 0 shed) p.told (hands.all still)) q.told;
       goes_on = goes_on_both ports.ceases_at (replies config p.exchanges ++ cancels_to config 0 shed) (replies config q.exchanges) (ports.sent p0) (ports.sent p2) (ports.sent p3)
@@ -138,16 +138,16 @@ controlled_some ports settings config capacity e l shed p0 p1 p2 p3 left old sea
 -- rounds, the CANCELs of a change, and rounds, over the counts of faults of the port
 pub controlled_changed : {P C : Type 0} (ports : Ports P) (clocks : Clocks C) (settings : GmSettings) (config : GmConfig) (capacity e l : ℕ) (p0 p1 p2 p3 : P) (c0 c1 c2 c3 : C) (first seat next last : SeatCounts) (g0 g1 g2 g3 f0 f1 f2 f3 : ℕ) →
     change_of settings ≡ Some capacity → e ≡ settings.change_round - 1 → e + l ≡ (all_rounds settings) → first ≡ no_verdicts →
-    TookSignaling ports clocks (greatest_capacity settings) config e p0 p1 c0 c1 first seat g0 g1 f0 f1 →
+    TookSignaling ports clocks (peak_capacity settings) config e p0 p1 c0 c1 first seat g0 g1 f0 f1 →
     (shed : List (Client × Kind)) × (sent : ℕ) × (failed : ℕ) × HandsOver ports p1 p2 (cancels_to config 0 shed) sent failed
     × (g2 ≡ min (g1 + sent) (2 ^ 128 - 1)) × (f2 ≡ min (f1 + failed) (2 ^ 64 - 1)) → next ≡ seat →
-    TookSignaling ports clocks (greatest_capacity settings) config l p2 p3 c2 c3 next last g2 g3 f2 f3 →
+    TookSignaling ports clocks (peak_capacity settings) config l p2 p3 c2 c3 next last g2 g3 f2 f3 →
     ¬ HasRisen (ports.faults p0) (ports.faults p3) →
     IfSome (ports.waiting p3) (λ later. IsControlled ports settings config p0 p3 later last.granted last.refused)
 controlled_changed ports clocks settings config capacity e l p0 p1 p2 p3 c0 c1 c2 c3 first seat next last g0 g1 g2 g3 f0 f1 f2 f3 some early_is all_is fresh p (shed, sent, failed, hands, goes, counted) same_seat q still =
     some_more (ports.waiting p3) _ _
     (λ left late. controlled_some ports settings config capacity e l shed p0 p1 p2 p3 left first seat last sent failed some early_is all_is fresh (p.did still1) hands still2
-    (subst (λ s. AreRounds ports (greatest_capacity settings) config l p2 p3 left s last) same_seat late))
+    (subst (λ s. AreRounds ports (peak_capacity settings) config l p2 p3 left s last) same_seat late))
     (q.did still3)
   where
     f01 : HasNotFallen (ports.faults p0) (ports.faults p1)
@@ -171,10 +171,10 @@ controlled_changed ports clocks settings config capacity e l p0 p1 p2 p3 c0 c1 c
 -- what was taken in both stretches, and what was sent there and in the change between them
 pub exchanged_changed : {P C : Type 0} (ports : Ports P) (clocks : Clocks C) (settings : GmSettings) (config : GmConfig) (capacity e l : ℕ) (p0 p1 p2 p3 : P) (c0 c1 c2 c3 : C) (first seat next last : SeatCounts) (g0 g1 g2 g3 f0 f1 f2 f3 : ℕ) →
     change_of settings ≡ Some capacity → e ≡ settings.change_round - 1 → e + l ≡ (all_rounds settings) → first ≡ no_verdicts →
-    (p : TookSignaling ports clocks (greatest_capacity settings) config e p0 p1 c0 c1 first seat g0 g1 f0 f1) →
+    (p : TookSignaling ports clocks (peak_capacity settings) config e p0 p1 c0 c1 first seat g0 g1 f0 f1) →
     (sends : (shed : List (Client × Kind)) × (sent : ℕ) × (failed : ℕ) × HandsOver ports p1 p2 (cancels_to config 0 shed) sent failed
     × (g2 ≡ min (g1 + sent) (2 ^ 128 - 1)) × (f2 ≡ min (f1 + failed) (2 ^ 64 - 1))) → PassedBy 1 (clocks.moments c1) (clocks.moments c2) → next ≡ seat →
-    (q : TookSignaling ports clocks (greatest_capacity settings) config l p2 p3 c2 c3 next last g2 g3 f2 f3) →
+    (q : TookSignaling ports clocks (peak_capacity settings) config l p2 p3 c2 c3 next last g2 g3 f2 f3) →
     (e : ExchangedAll ports clocks settings config p0 p3 c0 c3 last.granted last.refused) × (e.sent ≡ (p.sent + sends.1) + q.sent)
 exchanged_changed ports clocks settings config capacity e l p0 p1 p2 p3 c0 c1 c2 c3 first seat next last g0 g1 g2 g3 f0 f1 f2 f3 some early_is all_is fresh p (shed, sent, failed, hands, goes, counted) moved same_seat q =
     let x = p.exchanged in
@@ -197,7 +197,7 @@ exchanged_changed ports clocks settings config capacity e l p0 p1 p2 p3 c0 c1 c2
         unchanged = some_change (change_of settings) capacity shed some;
         given = exchanges_more x.exchanges y.exchanges (ports.waiting p0) (ports.waiting p2) (ports.waiting p3)
             (subst (λ told. IfSome told (λ later. ports.waiting p0 ≡ Some (datagrams x.exchanges ++ later))) (sym hands.waiting) x.given) y.given;
-        answered = All-append (IsAnswered (greatest_capacity settings) config) x.exchanges y.exchanges x.answered y.answered;
+        answered = All-append (IsAnswered (peak_capacity settings) config) x.exchanges y.exchanges x.answered y.answered;
         granted_are = let a = x.granted in let b = y.granted in omega (arith, granted, same_granted, a, b, grants_in-append x.exchanges y.exchanges);
         counted = let a = x.counted in let b = y.counted in omega (arith, granted, refused, same_granted, same_refused, a, b, asks_in-append config x.exchanges y.exchanges);
         moments = passed_as ((length x.exchanges + 1) + length y.exchanges) (length (x.exchanges ++ y.exchanges) + change_moments settings) _ _ (omega (arith, all, moment))
@@ -225,7 +225,7 @@ exchanged_changed ports clocks settings config capacity e l p0 p1 p2 p3 c0 c1 c2
     )
 
 pub exchanged_unchanged : {P C : Type 0} (ports : Ports P) (clocks : Clocks C) (settings : GmSettings) (config : GmConfig) (sent failed : ℕ) (p0 p1 : P) (c0 c1 : C) (old new : SeatCounts) →
-    change_of settings ≡ None → old ≡ no_verdicts → Exchanged ports clocks (greatest_capacity settings) config (all_rounds settings) sent failed p0 p1 c0 c1 old new →
+    change_of settings ≡ None → old ≡ no_verdicts → Exchanged ports clocks (peak_capacity settings) config (all_rounds settings) sent failed p0 p1 c0 c1 old new →
     (e : ExchangedAll ports clocks settings config p0 p1 c0 c1 new.granted new.refused) × (e.sent ≡ sent)
 exchanged_unchanged ports clocks settings config sent failed p0 p1 c0 c1 old new none fresh x =
     let rounds : early_rounds settings ≡ (all_rounds settings) = unchanged_rounds settings none in
@@ -244,7 +244,7 @@ exchanged_unchanged ports clocks settings config sent failed p0 p1 c0 c1 old new
         few = omega (arith, x.few, ap length all);
         unchanged = no_change (change_of settings);
         given = subst (λ xs. IfSome (ports.waiting p1) (λ later. ports.waiting p0 ≡ Some (datagrams xs ++ later))) (sym all) x.given;
-        answered = subst (All (IsAnswered (greatest_capacity settings) config)) (sym all) x.answered;
+        answered = subst (All (IsAnswered (peak_capacity settings) config)) (sym all) x.answered;
         granted_are = let a = x.granted in omega (arith, granted, a, ap grants_in all);
         counted = let a = x.counted in omega (arith, granted, refused, a, ap (λ es. asks_in config (datagrams es)) all);
         moments = passed_as (length x.exchanges) (length (x.exchanges ++ []) + change_moments settings) _ _ (omega (arith, moment, ap length all)) x.moments;
@@ -282,7 +282,7 @@ failed_changed ports config p0 p1 p2 p3 g1 g2 f0 f1 f2 f3 none p (shed, sent, fa
 
 pub signaling_unchanged : {P C : Type 0} (ports : Ports P) (clocks : Clocks C) (settings : GmSettings) (config : GmConfig) (p0 p1 : P) (c0 c1 : C) (old new : SeatCounts) (g0 g1 f0 f1 : ℕ) →
     change_of settings ≡ None → old ≡ no_verdicts → (g0 ≡ 0) × (f0 ≡ 0) →
-    TookSignaling ports clocks (greatest_capacity settings) config (all_rounds settings) p0 p1 c0 c1 old new g0 g1 f0 f1 →
+    TookSignaling ports clocks (peak_capacity settings) config (all_rounds settings) p0 p1 c0 c1 old new g0 g1 f0 f1 →
     ServedSignaling ports clocks settings config p0 p1 c0 c1 new g1 f1
 signaling_unchanged ports clocks settings config p0 p1 c0 c1 old new g0 g1 f0 f1 none fresh nothing took =
     let e = exchanged_unchanged ports clocks settings config took.sent took.more p0 p1 c0 c1 old new none fresh took.exchanged in
@@ -295,10 +295,10 @@ signaling_unchanged ports clocks settings config p0 p1 c0 c1 old new g0 g1 f0 f1
 
 pub signaling_changed : {P C : Type 0} (ports : Ports P) (clocks : Clocks C) (settings : GmSettings) (config : GmConfig) (capacity e l : ℕ) (p0 p1 p2 p3 : P) (c0 c1 c2 c3 : C) (first seat next last : SeatCounts) (g0 g1 g2 g3 f0 f1 f2 f3 : ℕ) →
     change_of settings ≡ Some capacity → e ≡ settings.change_round - 1 → e + l ≡ (all_rounds settings) → first ≡ no_verdicts → (g0 ≡ 0) × (f0 ≡ 0) →
-    TookSignaling ports clocks (greatest_capacity settings) config e p0 p1 c0 c1 first seat g0 g1 f0 f1 →
+    TookSignaling ports clocks (peak_capacity settings) config e p0 p1 c0 c1 first seat g0 g1 f0 f1 →
     (shed : List (Client × Kind)) × (sent : ℕ) × (failed : ℕ) × HandsOver ports p1 p2 (cancels_to config 0 shed) sent failed
     × (g2 ≡ min (g1 + sent) (2 ^ 128 - 1)) × (f2 ≡ min (f1 + failed) (2 ^ 64 - 1)) → PassedBy 1 (clocks.moments c1) (clocks.moments c2) → next ≡ seat →
-    TookSignaling ports clocks (greatest_capacity settings) config l p2 p3 c2 c3 next last g2 g3 f2 f3 →
+    TookSignaling ports clocks (peak_capacity settings) config l p2 p3 c2 c3 next last g2 g3 f2 f3 →
     ServedSignaling ports clocks settings config p0 p3 c0 c3 last g3 f3
 signaling_changed ports clocks settings config capacity e l p0 p1 p2 p3 c0 c1 c2 c3 first seat next last g0 g1 g2 g3 f0 f1 f2 f3 some early_is all_is fresh nothing p sends moved same q =
     let x = exchanged_changed ports clocks settings config capacity e l p0 p1 p2 p3 c0 c1 c2 c3 first seat next last g0 g1 g2 g3 f0 f1 f2 f3 some early_is all_is fresh p sends moved same q in

@@ -22,8 +22,8 @@ greater_of capacity None = capacity
 greater_of capacity (Some later) = max capacity later
 
 -- the greatest capacity that is in force in a round
-abbrev pub greatest_capacity : GmSettings → ℕ
-greatest_capacity settings = greater_of settings.capacity (change_of settings)
+abbrev pub peak_capacity : GmSettings → ℕ
+peak_capacity settings = greater_of settings.capacity (change_of settings)
 
 -- the capacity to which it changes, or the one that it has where it does not
 abbrev pub later_of : ℕ → Option ℕ → ℕ

@@ -1,7 +1,7 @@
 -- Settings that were made out by hand.
 use Rattle.std.specs.Prelude.{◌≡◌, ℕ, Option, Some, None}
 use Rattle.ptu_config.specs.{declared.settings.GmSettings.{GmSettings}, Examples.{repeated}}
-use Rattle.ptu_lanes.specs.Changing.{change_of, early_rounds, greatest_capacity, last_capacity}
+use Rattle.ptu_lanes.specs.Changing.{change_of, early_rounds, peak_capacity, last_capacity}
 
 -- settings of capacity 8 with so many rounds, so many times over, of which this one begins with a change to this capacity
 abbrev settings_with : ℕ → ℕ → ℕ → Option ℕ → GmSettings
@@ -12,10 +12,10 @@ settings_with rounds repeat round capacity =
 abbrev pub ChangesAre : Type 0
 ChangesAre =
     (change_of (settings_with 2 1 2 (Some 4)) ≡ Some 4) × (early_rounds (settings_with 2 1 2 (Some 4)) ≡ 1)
-    × (greatest_capacity (settings_with 2 1 2 (Some 4)) ≡ 8) × (greatest_capacity (settings_with 2 1 1 (Some 12)) ≡ 12)
+    × (peak_capacity (settings_with 2 1 2 (Some 4)) ≡ 8) × (peak_capacity (settings_with 2 1 1 (Some 12)) ≡ 12)
     × (early_rounds (settings_with 2 1 1 (Some 12)) ≡ 0)
     × (change_of (settings_with 2 1 3 (Some 12)) ≡ None) × (early_rounds (settings_with 2 1 3 (Some 12)) ≡ 2)
-    × (greatest_capacity (settings_with 2 1 3 (Some 12)) ≡ 8)
+    × (peak_capacity (settings_with 2 1 3 (Some 12)) ≡ 8)
     × (last_capacity (settings_with 2 1 2 (Some 4)) ≡ 4) × (last_capacity (settings_with 2 1 1 (Some 12)) ≡ 12)
     × (last_capacity (settings_with 2 1 3 (Some 12)) ≡ 8)
     × (change_of (settings_with 2 1 0 (Some 12)) ≡ None) × (early_rounds (settings_with 2 1 0 None) ≡ 2)

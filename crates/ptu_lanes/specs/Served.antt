@@ -14,7 +14,7 @@ use Rattle.ptu_config.specs.{declared.settings.GmSettings.{GmSettings}, Rounds.{
 use Rattle.ptu_outside.specs.{Handed.{WasHanded}, Ports.{HaveRisenBy, HaveRisenJust, WereSent, ports_of, senders_of}}
 use Rattle.ptu_lanes.specs.Rounds.{Exchange, IsAnswered, asks_in, datagrams, grants_in, replies}
 use Rattle.ptu_lanes.specs.{Sending.{GoesOn, WasSent}, Waiting.{GaveFirst, MissedFew, PassedBy, Took, TurnedOwn}}
-use Rattle.ptu_lanes.specs.Changing.{change_moments, change_of, early_rounds, greatest_capacity, last_capacity}
+use Rattle.ptu_lanes.specs.Changing.{change_moments, change_of, early_rounds, peak_capacity, last_capacity}
 use Rattle.ptu_lanes.specs.declared.serving.Totals.{Totals}
 
 -- the replies of some exchanges, the CANCELs of these grants, numbered from 0, and the replies of the other exchanges
@@ -36,7 +36,7 @@ pub record IsControlled {P : Type 0} (ports : Ports P) (settings : GmSettings) (
   pub all_are : datagrams (early ++ late) ≡ take (64 * all_rounds settings) waited
   pub rest : left ≡ drop (64 * all_rounds settings) waited
   pub unchanged : IfNone (change_of settings) (shed ≡ [])
-  pub answered : All (IsAnswered (greatest_capacity settings) config) (early ++ late)
+  pub answered : All (IsAnswered (peak_capacity settings) config) (early ++ late)
   pub told : WasSent ports port port' (replies_around config early shed late)
   pub goes_on : GoesOn ports port port' (replies_around config early shed late)
   pub granted_are : granted ≡ grants_in (early ++ late)
@@ -57,7 +57,7 @@ pub record ExchangedAll {P C : Type 0} (ports : Ports P) (clocks : Clocks C) (se
   pub few : length (early ++ late) ≤ 64 * all_rounds settings
   pub unchanged : IfNone (change_of settings) (shed ≡ [])
   pub given : IfSome (ports.waiting port') (λ later. ports.waiting port ≡ Some (datagrams (early ++ late) ++ later))
-  pub answered : All (IsAnswered (greatest_capacity settings) config) (early ++ late)
+  pub answered : All (IsAnswered (peak_capacity settings) config) (early ++ late)
   pub granted_are : granted ≡ grants_in (early ++ late)
   pub counted : granted + refused ≡ asks_in config (datagrams (early ++ late))
   pub moments : PassedBy (length (early ++ late) + change_moments settings) (clocks.moments clock) (clocks.moments clock')

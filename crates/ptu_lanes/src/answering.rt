@@ -3,7 +3,6 @@
 ghost use Rattle.std.specs.{Prelude.{◌≡◌, ◌+◌, ◌^◌, ◌<◌, ◌≤◌, List, [], ◌∷◌, length, map, IfOk, OnErr}, List.{All}};
 ghost use Rattle.ptu_outside.specs.HandsOver.{HandsOver};
 ghost use Rattle.ptu_units.specs.Kind.{kind_of};
-ghost use Rattle.ptu_profile.specs.Grandmaster.{IsWithinLimits};
 ghost use Rattle.ptu_gm_messages.specs.{Deciding.{answer_to, client_of}, Items.{AreAnswerable}};
 ghost use Rattle.ptu_grandmaster.specs.declared.outcome.Outcome.{Outcome};
 ghost use Rattle.ptu_grandmaster.specs.Outcomes.{answers_seen, decision_seen, item_seen};
@@ -43,7 +42,7 @@ fn end<P: Port + Send, L: Rates, G: Ledger, R: Ledger, W: Wait>(
     ensures { CancelFits t (kind_of code) result }
 {
     match Kind::of(code) {
-        Some(kind) => Some(service.shared.cancel(service.rt, t, client, kind)),
+        Some(kind) => Some(service.shared.cancel(service.base.rt, t, client, kind)),
         None => None,
     }
 }
@@ -57,19 +56,19 @@ fn answer_item<P: Port + Send, L: Rates, G: Ledger, R: Ledger, W: Wait>(
     item: Item,
 ) -> Result<Outcome, OutOfMemory>
     requires ledger { L.parts ≡ 4 }
-    requires limits { IsWithinLimits service.now.config.now }
     requires counts { (seat.old.granted < 2 ^ 56) × (seat.old.refused < 2 ^ 56) }
     ensures item { IfOk result (λ o. item_seen o ≡ item) }
-    ensures decided { IfOk result (WasDecided L.most service.now.config.now t client.now) }
-    ensures answered { IfOk result (λ o. HasAnswered service.now.config.now (item ∷ [])
+    ensures decided { IfOk result
+        (WasDecided L.most service.now.base.now.config.now t client.now) }
+    ensures answered { IfOk result (λ o. HasAnswered service.now.base.now.config.now (item ∷ [])
         (answer_to (decision_seen o) ∷ []) seat.old seat.new) }
     ensures no_less { (seat.old.granted ≤ seat.new.granted)
         × (seat.old.refused ≤ seat.new.refused) }
 {
     match item {
         Item::Request(ask) => {
-            let Service { shared, config, .. } = service;
-            let verdict = shared.admit(service.rt, seat, config, t, client, &ask)?;
+            let Service { base, shared } = service;
+            let verdict = shared.admit(base.rt, seat, base.config, t, client, &ask)?;
             Ok(Outcome::Verdict(ask, verdict))
         }
         Item::Cancel(code) => {
@@ -88,17 +87,17 @@ fn answer_items<P: Port + Send, L: Rates, G: Ledger, R: Ledger, W: Wait>(
     items: &[Item],
 ) -> Result<Outcomes, OutOfMemory>
     requires ledger { L.parts ≡ 4 }
-    requires limits { IsWithinLimits service.now.config.now }
     requires few { length items.now ≤ 32 }
     requires counts { (seat.old.granted + 32 ≤ 2 ^ 56) × (seat.old.refused + 32 ≤ 2 ^ 56) }
     ensures items { IfOk result (λ os. map item_seen os ≡ items.now) }
-    ensures decided { IfOk result (All (WasDecided L.most service.now.config.now t client.now)) }
+    ensures decided { IfOk result
+        (All (WasDecided L.most service.now.base.now.config.now t client.now)) }
     ensures answered { IfOk result (λ os.
-        HasAnswered service.now.config.now items.now (answers_seen os) seat.old seat.new) }
+        HasAnswered service.now.base.now.config.now items.now (answers_seen os) seat.old seat.new) }
     ensures no_less { (seat.old.granted ≤ seat.new.granted)
         × (seat.old.refused ≤ seat.new.refused) }
 {
-    let mut outcomes = Vec::new(service.alloc);
+    let mut outcomes = Vec::new(service.base.alloc);
     for item in items {
         outcomes.push(answer_item(service, seat, t, client, *item)?)?;
     }
@@ -137,16 +136,17 @@ fn answer_signaling<P: Port + Send, L: Rates, G: Ledger, R: Ledger, W: Wait>(
     items: &[Item],
 ) -> Result<Control, OutOfMemory>
     requires ledger { L.parts ≡ 4 }
-    requires limits { IsWithinLimits service.now.config.now }
     requires answerable { AreAnswerable items.now }
     requires counts { (seat.old.granted + 32 ≤ 2 ^ 56) × (seat.old.refused + 32 ≤ 2 ^ 56) }
     ensures answered { IfOk result (λ c. (outcomes : List Outcome)
         × (map item_seen outcomes ≡ items.now)
-        × All (WasDecided L.most service.now.config.now origin.at
+        × All (WasDecided L.most service.now.base.now.config.now origin.at
         (client_of origin.from header.now)) outcomes
-        × HasAnswered service.now.config.now items.now (answers_seen outcomes) seat.old seat.new
+        × HasAnswered service.now.base.now.config.now items.now (answers_seen outcomes)
+        seat.old seat.new
         × HandsOver P.Port port.old port.new
-        (reply_if_any service.now.config.now origin.from header.now (answers_seen outcomes))
+        (reply_if_any service.now.base.now.config.now origin.from header.now
+        (answers_seen outcomes))
         c.sent c.failed) }
     ensures asks { IfOk result (λ c. seat.new.granted + seat.new.refused
         ≡ seat.old.granted + seat.old.refused + c.asks) }
@@ -157,7 +157,7 @@ fn answer_signaling<P: Port + Send, L: Rates, G: Ledger, R: Ledger, W: Wait>(
     let before = seat.granted() + seat.refused();
     let client = client(origin.from, header);
     let outcomes = answer_items(service, seat, origin.at, &client, items)?;
-    let sends = send_reply(port, service.config, origin.from, header, &outcomes);
+    let sends = send_reply(port, service.base.config, origin.from, header, &outcomes);
     Ok(Control {
         asks: seat.granted() + seat.refused() - before,
         sent: sends.sent,
@@ -174,17 +174,16 @@ pub(crate) fn answer_datagram<P: Port + Send, L: Rates, G: Ledger, R: Ledger, W:
     bytes: &[u8],
 ) -> Result<Control, OutOfMemory>
     requires ledger { L.parts ≡ 4 }
-    requires limits { IsWithinLimits service.now.config.now }
     requires counts { (seat.old.granted + 32 ≤ 2 ^ 56) × (seat.old.refused + 32 ≤ 2 ^ 56) }
     ensures replied { IfOk result (λ c. (outcomes : List Outcome)
-        × HasReplied P.Port L.most service.now.config.now
+        × HasReplied P.Port L.most service.now.base.now.config.now
         (record { datagram = record { ip = origin.from; bytes = bytes.now }; outcomes = outcomes })
         port.old port.new seat.old seat.new c.asks c.sent c.failed) }
     ensures unsent { OnErr result (port.new ≡ port.old) }
     ensures no_less { (seat.old.granted ≤ seat.new.granted)
         × (seat.old.refused ≤ seat.new.refused) }
 {
-    match hear(service.alloc, service.config, bytes)? {
+    match hear(service.base.alloc, service.base.config, bytes)? {
         Ok(Heard::Asks(header, items)) => {
             answer_signaling(service, seat, port, origin, &header, items.list())
         }

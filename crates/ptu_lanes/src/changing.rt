@@ -1,15 +1,13 @@
 //! The change of capacity of a grandmaster that is served by lanes.
 
-ghost use Rattle.std.specs.Prelude.{◌≡◌, ◌+◌, ◌-◌, ◌^◌, ◌≤◌, min, ℕ, IfOk, OnErr, IfSome, IsSome, List, Some};
+ghost use Rattle.std.specs.Prelude.{◌≡◌, ◌+◌, ◌-◌, ◌^◌, ◌≤◌, min, ℕ, IfOk, OnErr, IsSome, List, Some};
 ghost use Rattle.ptu_outside.specs.HandsOver.{HandsOver};
 ghost use Rattle.ptu_units.specs.declared.kind.Kind.{Kind};
 ghost use Rattle.ptu_history.specs.declared.client.Client.{Client};
-ghost use Rattle.ptu_units.specs.Limits.{IsCapacity};
 ghost use Rattle.ptu_gm_messages.specs.Replies.{cancels_to};
 ghost use Rattle.ptu_config.specs.{Limits.{IsGmInRange}, Rounds.{all_rounds}};
-ghost use Rattle.ptu_profile.specs.Grandmaster.{IsWithinLimits};
 ghost use Rattle.ptu_shared.specs.Seats.{no_verdicts};
-ghost use Rattle.ptu_lanes.specs.{Changing.{change_of, greatest_capacity, last_capacity}, Crew.{ServedSignaling}, Waiting.{PassedBy}};
+ghost use Rattle.ptu_lanes.specs.{Changing.{change_of, peak_capacity, last_capacity}, Crew.{ServedSignaling}, Waiting.{PassedBy}};
 
 use crate::lanes::{ControlLane, Rounds};
 use crate::service::Service;
@@ -17,16 +15,15 @@ use ptu_config::GmSettings;
 use ptu_grandmaster::send_cancels;
 use ptu_outside::{Clock, Port};
 use ptu_shared::Rates;
-use ptu_units::OutOfMemory;
+use ptu_units::{Capacity, OutOfMemory};
 use std::sync::Wait;
 use std::sync::ledger::Ledger;
 
 /// The capacity to which the settings change, if they do: the round of the change is one of all
 /// rounds.
-pub(crate) fn change(settings: &GmSettings) -> Option<u64>
+pub(crate) fn change(settings: &GmSettings) -> Option<Capacity>
     requires { IsGmInRange settings.now }
     ensures change { result ≡ change_of settings.now }
-    ensures range { IfSome result (λ capacity. IsCapacity capacity) }
     ensures round { IsSome result → (1 ≤ settings.now.change_round)
         × (settings.now.change_round ≤ all_rounds settings.now) }
 {
@@ -39,7 +36,7 @@ pub(crate) fn change(settings: &GmSettings) -> Option<u64>
 }
 
 /// The capacity that is in force at the end.
-pub(crate) fn capacity_at_end(settings: &GmSettings) -> u64
+pub(crate) fn capacity_at_end(settings: &GmSettings) -> Capacity
     requires { IsGmInRange settings.now }
     ensures { result ≡ last_capacity settings.now }
 {
@@ -63,14 +60,14 @@ pub(crate) fn rounds_before_change(settings: &GmSettings) -> Option<u64>
 /// `OutOfMemory`, and then nothing has changed.
 pub(crate) fn change_capacity<P: Port + Send, C: Clock, L: Rates, G: Ledger, R: Ledger, W: Wait>(
     service: &Service<'_, P, L, G, R, W>,
-    capacity: u64,
+    capacity: Capacity,
     lane: &mut ControlLane<P, C, G, R>,
 ) -> Result<(), OutOfMemory>
     requires ledger { L.parts ≡ 4 }
-    requires capacity { IsCapacity capacity }
     requires most { capacity ≤ L.most }
     ensures sends { IfOk result (λ _. (shed : List (Client × Kind)) × (sent : ℕ) × (failed : ℕ)
-        × HandsOver P.Port lane.old.port lane.new.port (cancels_to service.now.config.now 0 shed)
+        × HandsOver P.Port lane.old.port lane.new.port
+        (cancels_to service.now.base.now.config.now 0 shed)
         sent failed
         × (lane.new.tally.sent ≡ min (lane.old.tally.sent + sent) (2 ^ 128 - 1))
         × (lane.new.tally.failed ≡ min (lane.old.tally.failed + failed) (2 ^ 64 - 1))) }
@@ -81,8 +78,8 @@ pub(crate) fn change_capacity<P: Port + Send, C: Clock, L: Rates, G: Ledger, R: 
 {
     let resized = service
         .shared
-        .resize(service.rt, lane.clock.now(), capacity)?;
-    let sends = send_cancels(&mut lane.port, service.config, 0, resized.shed.list());
+        .resize(service.base.rt, lane.clock.now(), capacity)?;
+    let sends = send_cancels(&mut lane.port, service.base.config, 0, resized.shed.list());
     lane.tally = lane.tally.plus(sends.sent, sends.failed);
     Ok(())
 }
@@ -94,28 +91,26 @@ impl<P: Port + Send, L: Rates, G: Ledger, R: Ledger, W: Wait> Service<'_, P, L, 
         &self,
         settings: &GmSettings,
         rounds: &Rounds,
-        capacity: u64,
+        capacity: Capacity,
         lane: ControlLane<P, C, G, R>,
     ) -> Result<ControlLane<P, C, G, R>, OutOfMemory>
         requires range { IsGmInRange settings.now }
         requires change { change_of settings.now ≡ Some capacity }
-        requires capacity { IsCapacity capacity }
         requires round { (1 ≤ settings.now.change_round)
             × (settings.now.change_round ≤ all_rounds settings.now) }
-        requires limits { IsWithinLimits self.now.config.now }
         requires ledger { L.parts ≡ 4 }
-        requires most { (capacity ≤ L.most) × (L.most ≡ greatest_capacity settings.now) }
+        requires most { (capacity ≤ L.most) × (L.most ≡ peak_capacity settings.now) }
         requires seat { lane.seat ≡ no_verdicts }
         requires tally { (lane.tally.sent ≡ 0) × (lane.tally.failed ≡ 0) }
         ensures { IfOk result (λ new. ServedSignaling P.Port C.Clock settings.now
-            self.now.config.now lane.port new.port lane.clock new.clock new.seat
+            self.now.base.now.config.now lane.port new.port lane.clock new.clock new.seat
             new.tally.sent new.tally.failed) }
     {
         let early = u64::from(settings.change_round) - 1;
         let late = settings.all_rounds() - early;
         let mut lane = self.take_part_signaling(rounds, early, lane)?;
         let changed = change_capacity(self, capacity, &mut lane);
-        rounds.met(self.rt, changed)?;
+        rounds.met(self.base.rt, changed)?;
         self.take_part_signaling(rounds, late, lane)
     }
 
@@ -131,13 +126,12 @@ impl<P: Port + Send, L: Rates, G: Ledger, R: Ledger, W: Wait> Service<'_, P, L, 
         lane: ControlLane<P, C, G, R>,
     ) -> Result<ControlLane<P, C, G, R>, OutOfMemory>
         requires range { IsGmInRange settings.now }
-        requires limits { IsWithinLimits self.now.config.now }
         requires ledger { L.parts ≡ 4 }
-        requires most { L.most ≡ greatest_capacity settings.now }
+        requires most { L.most ≡ peak_capacity settings.now }
         requires seat { lane.seat ≡ no_verdicts }
         requires tally { (lane.tally.sent ≡ 0) × (lane.tally.failed ≡ 0) }
         ensures { IfOk result (λ new. ServedSignaling P.Port C.Clock settings.now
-            self.now.config.now lane.port new.port lane.clock new.clock new.seat
+            self.now.base.now.config.now lane.port new.port lane.clock new.clock new.seat
             new.tally.sent new.tally.failed) }
     {
         match change(settings) {

@@ -3,10 +3,9 @@
 //! lane serves, and all is given back as it was opened.
 
 ghost use Rattle.std.specs.Prelude.{◌≡◌, ◌+◌, ◌≤◌, ◌<◌, ℕ, [], IfOk, IfSome};
-ghost use Rattle.ptu_profile.specs.Grandmaster.{IsWithinLimits};
 ghost use Rattle.ptu_shared.specs.{Blanks.{IsBlankOf}, Opening.{seen_of}, Seats.{no_verdicts}};
 ghost use Rattle.ptu_config.specs.{Limits.{IsGmInRange}, Rounds.{all_rounds}};
-ghost use Rattle.ptu_lanes.specs.Changing.{greatest_capacity};
+ghost use Rattle.ptu_lanes.specs.Changing.{peak_capacity};
 ghost use Rattle.ptu_lanes.specs.Crew.{AreTurning, CrewCameTo, Ends, EventKept, HasDone, HasLeft, IsAtWork, IsServed, IsTurning, SendingKept, ServedSignaling};
 ghost use Rattle.ptu_lanes.specs.{Stretches.{EventLaneDid, HaveTurned}, Waiting.{TurnedOwn}};
 
@@ -15,15 +14,13 @@ use crate::changing::rounds_before_change;
 use crate::lanes::{
     ControlLane, EventLane, Lanes, Position, Rounds, SendingLane, SendingLanes, Tally,
 };
-use crate::service::Service;
+use crate::service::{Base, Service};
 use ptu_config::GmSettings;
 use ptu_outside::{Clock, Meeting, Opened, Port};
-use ptu_profile::GmConfig;
-use ptu_shared::{Rates, Seat, Shared};
+use ptu_shared::{Blanks, Rates, Seat, Shared, TablePorts};
 use ptu_units::OutOfMemory;
-use std::alloc::Global;
 use std::snapshot::Snapshot;
-use std::sync::ledger::{Blank, Ledger};
+use std::sync::ledger::Ledger;
 use std::sync::{OnceLock, Wait};
 use std::thread;
 use std::thread::{Promise, Scope, Threads};
@@ -31,14 +28,6 @@ use std::thread::{Promise, Scope, Threads};
 /// Where lanes wait until it is known whether all have their threads. It has the tables then, or
 /// none where a lane was refused its thread.
 pub(crate) type Gate<P, L, G, R> = OnceLock<Option<Shared<P, L, G, R>>>;
-
-/// What becomes the ledgers of a grandmaster with one seat.
-#[derive(Drop)]
-pub(crate) struct Blanks {
-    pub rates: Blank,
-    pub granted: Blank,
-    pub refused: Blank,
-}
 
 /// How the calls of all lanes have ended.
 #[derive(Drop)]
@@ -52,9 +41,7 @@ pub(crate) enum Done<P: Port, C: Clock, G: Ledger, R: Ledger> {
 /// What the lanes of a grandmaster have in common before they serve.
 #[derive(Drop)]
 pub(crate) struct Crew<'a, P: Port + Send, L: Rates, G: Ledger, R: Ledger, W> {
-    pub rt: &'a W,
-    pub alloc: Global,
-    pub config: &'a GmConfig,
+    pub base: &'a Base<'a, W>,
     pub gate: &'a Gate<P, L, G, R>,
     pub rounds: Rounds,
     /// How many threads may be made. One more is refused, as where the system refuses it.
@@ -78,7 +65,7 @@ fn sending_lanes<C: Clock>(c2: C, c3: C, c4: C, c5: C) -> SendingLanes<C>
 fn sender_count(settings: &GmSettings) -> usize
     ensures { result ≡ settings.now.senders }
 {
-    usize::from(settings.senders)
+    usize::from(settings.senders.get())
 }
 
 impl<P, L, G, R, W> Crew<'_, P, L, G, R, W>
@@ -91,19 +78,17 @@ where
 {
     // Lets all lanes leave.
     fn refuse(&self) {
-        let _ = self.gate.set(self.rt, None);
+        let _ = self.gate.set(self.base.rt, None);
     }
 
     // What the lanes serve with, once all have their threads. None where one was refused.
     fn service(&self) -> Option<Service<'_, P, L, G, R, W>>
-        ensures { IfSome result (λ service. service.config ≡ self.now.config) }
+        ensures { IfSome result (λ service. service.base ≡ self.now.base) }
     {
-        match self.gate.wait(self.rt) {
+        match self.gate.wait(self.base.rt) {
             Some(shared) => Some(Service {
-                rt: self.rt,
-                alloc: self.alloc,
+                base: self.base,
                 shared,
-                config: self.config,
             }),
             None => None,
         }
@@ -116,14 +101,13 @@ where
         lane: ControlLane<P, C, G, R>,
     ) -> Called<ControlLane<P, C, G, R>>
         requires range { IsGmInRange settings.now }
-        requires limits { IsWithinLimits self.now.config.now }
         requires ledger { L.parts ≡ 4 }
-        requires most { L.most ≡ greatest_capacity settings.now }
+        requires most { L.most ≡ peak_capacity settings.now }
         requires seat { lane.seat ≡ no_verdicts }
         requires tally { (lane.tally.sent ≡ 0) × (lane.tally.failed ≡ 0) }
-        ensures { CrewCameTo (λ new. ServedSignaling P.Port C.Clock settings.now self.now.config.now
-            lane.port new.port lane.clock new.clock new.seat new.tally.sent new.tally.failed)
-            lane result }
+        ensures { CrewCameTo (λ new. ServedSignaling P.Port C.Clock settings.now
+            self.now.base.now.config.now lane.port new.port lane.clock new.clock
+            new.seat new.tally.sent new.tally.failed) lane result }
     {
         match self.service() {
             Some(service) => Called::Served(service.take_signaling_all(
@@ -137,8 +121,7 @@ where
 
     // The call of the lane that takes Delay_Reqs.
     fn call_event<C: Clock>(&self, lane: EventLane<P, C>) -> Called<EventLane<P, C>>
-        requires limits { IsWithinLimits self.now.config.now }
-        requires config { self.now.config.now ≡ L.config }
+        requires config { self.now.base.now.config.now ≡ L.config }
         ensures { CrewCameTo (EventLaneDid P.Port C.Clock self.now.rounds.count lane) lane result }
     {
         match self.service() {
@@ -153,8 +136,7 @@ where
         position: Position,
         lane: SendingLane<C>,
     ) -> Called<SendingLane<C>>
-        requires limits { IsWithinLimits self.now.config.now }
-        requires config { self.now.config.now ≡ L.config }
+        requires config { self.now.base.now.config.now ≡ L.config }
         requires index { (position.index < position.count) × (position.count ≤ 4) }
         ensures { CrewCameTo (λ new. TurnedOwn C.Clock position.count position.index
             self.now.rounds.count lane.clock new.clock) lane result }
@@ -203,8 +185,7 @@ where
         scope: &Scope<'s, E>,
         lane: EventLane<P, C>,
     ) -> EventCall<P, C>
-        requires limits { IsWithinLimits self.now.config.now }
-        requires config { self.now.config.now ≡ L.config }
+        requires config { self.now.base.now.config.now ≡ L.config }
         ensures { IsAtWork (EventLaneDid P.Port C.Clock self.now.rounds.count lane) lane
             (EventKept P.Port C.Clock) result }
     {
@@ -217,8 +198,7 @@ where
             0,
             work,
             move ||
-                requires { IsWithinLimits self.now.config.now
-                    × (self.now.config.now ≡ L.config) }
+                requires { self.now.base.now.config.now ≡ L.config }
             { self.call_event(lane) },
         )
     }
@@ -230,10 +210,10 @@ where
         position: Position,
         lane: SendingLane<C>,
     ) -> SendingCall<C>
-        requires limits { IsWithinLimits self.now.config.now }
-        requires config { self.now.config.now ≡ L.config }
+        requires config { self.now.base.now.config.now ≡ L.config }
         requires index { (position.index < 4) × (1 ≤ position.count) × (position.count ≤ 4) }
-        ensures { IsTurning C.Clock position.count position.index self.now.rounds.count lane result }
+        ensures { IsTurning C.Clock position.count position.index self.now.rounds.count
+            lane result }
     {
         if position.count <= position.index {
             return Call::Here(Called::Idle(lane));
@@ -248,8 +228,7 @@ where
             1 + position.index,
             work,
             move ||
-                requires { IsWithinLimits self.now.config.now
-                    × (self.now.config.now ≡ L.config)
+                requires { (self.now.base.now.config.now ≡ L.config)
                     × (position.index < position.count) × (position.count ≤ 4) }
             { self.call_sending(position, lane) },
         )
@@ -262,8 +241,7 @@ where
         count: usize,
         lanes: SendingLanes<C>,
     ) -> SendingCalls<C>
-        requires limits { IsWithinLimits self.now.config.now }
-        requires config { self.now.config.now ≡ L.config }
+        requires config { self.now.base.now.config.now ≡ L.config }
         requires count { (1 ≤ count) × (count ≤ 4) }
         ensures { AreTurning C.Clock count self.now.rounds.count lanes result }
     {
@@ -296,10 +274,10 @@ where
             fourth,
         } = calls;
         Ok(SendingLanes {
-            first: first.called(self.rt).served()?,
-            second: second.called(self.rt).served()?,
-            third: third.called(self.rt).served()?,
-            fourth: fourth.called(self.rt).served()?,
+            first: first.called(self.base.rt).served()?,
+            second: second.called(self.base.rt).served()?,
+            third: third.called(self.base.rt).served()?,
+            fourth: fourth.called(self.base.rt).served()?,
         })
     }
 
@@ -315,10 +293,10 @@ where
             fourth,
         } = calls;
         Ok(SendingLanes {
-            first: first.called(self.rt).left()?,
-            second: second.called(self.rt).left()?,
-            third: third.called(self.rt).left()?,
-            fourth: fourth.called(self.rt).left()?,
+            first: first.called(self.base.rt).left()?,
+            second: second.called(self.base.rt).left()?,
+            third: third.called(self.base.rt).left()?,
+            fourth: fourth.called(self.base.rt).left()?,
         })
     }
 
@@ -337,34 +315,21 @@ where
         requires granted { IsBlankOf G.name G.parts L.seats blanks.granted }
         requires refused { IsBlankOf R.name R.parts L.seats blanks.refused }
         requires opening { L.opening ≡ settings.now.capacity }
-        requires most { L.most ≡ greatest_capacity settings.now }
+        requires most { L.most ≡ peak_capacity settings.now }
         requires seats { L.seats ≡ 1 }
         requires ports { (seen_of P.Port p0 ≡ L.opened 0) × (seen_of P.Port p1 ≡ L.opened 1)
             × (seen_of P.Port p2 ≡ L.opened 2) × (seen_of P.Port p3 ≡ L.opened 3) }
-        requires range { IsGmInRange settings.now }
         ensures seat { IfOk result (λ seats. seats.0 ≡ no_verdicts) }
         ensures others { IfOk result (λ seats. seats.1.items ≡ []) }
     {
-        let made = Shared::<P, L, G, R>::new(
-            self.alloc,
-            blanks.rates,
-            blanks.granted,
-            blanks.refused,
-            settings.capacity,
-            1,
-            p0,
-            p1,
-            p2,
-            p3,
-        );
+        let ports = TablePorts { p0, p1, p2, p3 };
+        let made = Shared::<P, L, G, R>::new(self.base.alloc, blanks, settings.capacity, 1, ports);
         let Ok((shared, mut seats)) = made else {
             self.refuse();
             return Err(OutOfMemory);
         };
-        let Some(seat) = seats.pop() else {
-            unreachable!()
-        };
-        let _ = self.gate.set(self.rt, Some(shared));
+        let seat = seats.remove(0);
+        let _ = self.gate.set(self.base.rt, Some(shared));
         Ok((seat, seats))
     }
 
@@ -380,17 +345,17 @@ where
         requires granted { IsBlankOf G.name G.parts L.seats blanks.granted }
         requires refused { IsBlankOf R.name R.parts L.seats blanks.refused }
         requires opening { L.opening ≡ settings.now.capacity }
-        requires most { L.most ≡ greatest_capacity settings.now }
+        requires most { L.most ≡ peak_capacity settings.now }
         requires seats { L.seats ≡ 1 }
         requires ports { (seen_of P.Port opened.p0 ≡ L.opened 0)
             × (seen_of P.Port opened.p1 ≡ L.opened 1) × (seen_of P.Port opened.p2 ≡ L.opened 2)
             × (seen_of P.Port opened.p3 ≡ L.opened 3) }
         requires range { IsGmInRange settings.now }
         requires senders { 1 ≤ settings.now.senders }
-        requires limits { IsWithinLimits self.now.config.now }
-        requires config { self.now.config.now ≡ L.config }
+        requires config { self.now.base.now.config.now ≡ L.config }
         requires rounds { self.now.rounds.count ≡ all_rounds settings.now }
-        ensures { IfOk result (HasDone P.Port C.Clock settings.now self.now.config.now opened) }
+        ensures { IfOk result
+            (HasDone P.Port C.Clock settings.now self.now.base.now.config.now opened) }
     {
         let event = EventLane {
             port: opened.p5,
@@ -401,7 +366,7 @@ where
         let event = self.start_event(scope, event);
         let sending = self.start_all_sending(scope, sender_count(settings), sending);
         if self.gate.get().is_some() {
-            let event = event.called(self.rt).left()?;
+            let event = event.called(self.base.rt).left()?;
             let sending = self.left_sending(sending)?;
             return Ok(Done::Refused(Opened {
                 p5: event.port,
@@ -423,16 +388,14 @@ where
             tally: Tally::default(),
         };
         let control = self.call_control(settings, control).served()?;
-        let event = event.called(self.rt).served()?;
+        let event = event.called(self.base.rt).served()?;
         let sending = self.served_sending(sending)?;
-        Ok(Done::Served(
-            Lanes {
-                control,
-                event,
-                sending,
-            },
-            seats,
-        ))
+        let lanes = Lanes {
+            control,
+            event,
+            sending,
+        };
+        Ok(Done::Served(lanes, seats))
     }
 }
 
@@ -443,12 +406,10 @@ where
 /// # Errors
 /// `OutOfMemory`, after the round in which it came, with the ports and clocks dropped.
 pub(crate) fn call_all<'a, P, C, L, G, R, W>(
-    rt: &'a W,
-    alloc: Global,
+    base: &'a Base<'a, W>,
     gate: &'a Gate<P, L, G, R>,
     threads: usize,
     settings: &GmSettings,
-    config: &'a GmConfig,
     blanks: Blanks,
     opened: Opened<P, C>,
 ) -> Result<Done<P, C, G, R>, OutOfMemory>
@@ -463,26 +424,23 @@ where
     requires granted { IsBlankOf G.name G.parts L.seats blanks.granted }
     requires refused { IsBlankOf R.name R.parts L.seats blanks.refused }
     requires opening { L.opening ≡ settings.now.capacity }
-    requires most { L.most ≡ greatest_capacity settings.now }
+    requires most { L.most ≡ peak_capacity settings.now }
     requires seats { L.seats ≡ 1 }
     requires ports { (seen_of P.Port opened.p0 ≡ L.opened 0)
         × (seen_of P.Port opened.p1 ≡ L.opened 1) × (seen_of P.Port opened.p2 ≡ L.opened 2)
         × (seen_of P.Port opened.p3 ≡ L.opened 3) }
     requires range { IsGmInRange settings.now }
     requires senders { 1 ≤ settings.now.senders }
-    requires limits { IsWithinLimits config.now }
-    requires config { config.now ≡ L.config }
-    ensures { IfOk result (HasDone P.Port C.Clock settings.now config.now opened) }
+    requires config { base.now.config.now ≡ L.config }
+    ensures { IfOk result (HasDone P.Port C.Clock settings.now base.now.config.now opened) }
 {
     let rounds = Rounds {
-        meeting: Meeting::new(2 + u64::from(settings.senders)),
+        meeting: Meeting::new(2 + u64::from(settings.senders.get())),
         count: settings.all_rounds(),
         early: rounds_before_change(settings),
     };
     let crew = Crew {
-        rt,
-        alloc,
-        config,
+        base,
         gate,
         rounds,
         threads,
@@ -490,23 +448,23 @@ where
     let crew = &crew;
     thread::scope(
         thread::scope_env(),
-        rt,
+        base.rt,
         move |scope| -> Result<Done<P, C, G, R>, OutOfMemory>
             requires { IsBlankOf L.name L.parts 4 blanks.rates
                 × IsBlankOf G.name G.parts L.seats blanks.granted
                 × IsBlankOf R.name R.parts L.seats blanks.refused
                 × (L.opening ≡ settings.now.capacity)
-                × (L.most ≡ greatest_capacity settings.now) × (L.seats ≡ 1)
+                × (L.most ≡ peak_capacity settings.now) × (L.seats ≡ 1)
                 × (seen_of P.Port opened.p0 ≡ L.opened 0)
                 × (seen_of P.Port opened.p1 ≡ L.opened 1)
                 × (seen_of P.Port opened.p2 ≡ L.opened 2)
                 × (seen_of P.Port opened.p3 ≡ L.opened 3)
                 × IsGmInRange settings.now × (1 ≤ settings.now.senders)
-                × IsWithinLimits crew.now.config.now
-                × (crew.now.config.now ≡ L.config)
+                × (crew.now.base.now.config.now ≡ L.config)
                 × (crew.now.rounds.count ≡ all_rounds settings.now) }
             ensures { IfOk result
-                (HasDone P.Port C.Clock settings.entry.now crew.entry.now.config.now opened) }
+                (HasDone P.Port C.Clock settings.entry.now crew.entry.now.base.now.config.now
+                opened) }
         { crew.work(scope, settings, blanks, opened) },
     )
 }

@@ -2,7 +2,6 @@
 
 ghost use Rattle.std.specs.Prelude.{◌≡◌, ◌+◌, ◌≤◌, [], true, false, if◌then◌else◌, IfOk, IfSome, OnErr};
 ghost use Rattle.ptu_outside.specs.Faults.{HasNotFallen, HasRisen};
-ghost use Rattle.ptu_profile.specs.Grandmaster.{IsWithinLimits};
 ghost use Rattle.ptu_shard.specs.Answered.{failed_by, sent_by};
 ghost use Rattle.ptu_shared.specs.Opening.{HaveFailed};
 ghost use Rattle.ptu_lanes.specs.Waiting.{GaveFirst, HasTaken, Took};
@@ -13,12 +12,10 @@ use crate::service::Service;
 use crate::signaling::MOST_DATAGRAMS;
 use ptu_gm_messages::{Heard, hear};
 use ptu_outside::{Clock, Port};
-use ptu_profile::GmConfig;
 use ptu_shard::Answered;
-use ptu_shared::{Rates, Shared};
+use ptu_shared::Rates;
 use ptu_units::OutOfMemory;
 use ptu_units::sizes::LONGEST_DATAGRAM;
-use std::alloc::Global;
 use std::sync::Wait;
 use std::sync::ledger::Ledger;
 
@@ -60,17 +57,15 @@ fn answer_delay<P: Port + Send, L: Rates, G: Ledger, R: Ledger, W: Wait>(
     origin: Origin,
     bytes: &[u8],
 ) -> Result<Delays, OutOfMemory>
-    requires limits { IsWithinLimits service.now.config.now }
-    requires config { service.now.config.now ≡ L.config }
+    requires config { service.now.base.now.config.now ≡ L.config }
     ensures most { IfOk result (λ s. s.sent + s.failed ≤ 1) }
     ensures missed { IfOk result (λ s. s.missed ≡ 0) }
 {
-    match hear(service.alloc, service.config, bytes)? {
+    let Service { base, shared } = service;
+    match hear(base.alloc, base.config, bytes)? {
         Ok(Heard::DelayReq(header)) => {
             let client = client(origin.from, &header);
-            let answered = service
-                .shared
-                .answer_delay(service.rt, service.config, origin.at, &client, &header);
+            let answered = shared.answer_delay(base.rt, base.config, origin.at, &client, &header);
             Ok(delays_of(&answered))
         }
         Ok(Heard::Asks(..)) | Err(_) => Ok(IDLE),
@@ -85,8 +80,7 @@ fn take_one<P: Port + Send, C: Clock, L: Rates, G: Ledger, R: Ledger, W: Wait>(
     clock: &mut C,
     buffer: &mut [u8; LONGEST_DATAGRAM],
 ) -> Result<(Delays, bool), OutOfMemory>
-    requires limits { IsWithinLimits service.now.config.now }
-    requires config { service.now.config.now ≡ L.config }
+    requires config { service.now.base.now.config.now ≡ L.config }
     ensures most { IfOk result (λ r. r.0.sent + r.0.failed + r.0.missed ≤ 1) }
     ensures once { IfOk result (λ r. r.1 ≡ true → r.0.missed ≡ 0) }
     ensures taken { IfOk result (λ r. HasTaken P.Port C.Clock (if r.1 then 1 else 0) r.0.missed
@@ -118,16 +112,12 @@ fn take_one<P: Port + Send, C: Clock, L: Rates, G: Ledger, R: Ledger, W: Wait>(
 /// # Errors
 /// `OutOfMemory`, with the answers so far, which were sent. The datagram at which it comes is taken
 /// and not answered.
-pub fn delay_round<P: Port + Send, C: Clock, L: Rates, G: Ledger, R: Ledger>(
-    rt: &impl Wait,
-    alloc: Global,
-    shared: &Shared<P, L, G, R>,
-    config: &GmConfig,
+pub fn delay_round<P: Port + Send, C: Clock, L: Rates, G: Ledger, R: Ledger, W: Wait>(
+    service: &Service<'_, P, L, G, R, W>,
     port: &mut P,
     clock: &mut C,
 ) -> Result<Delays, OutOfMemory>
-    requires limits { IsWithinLimits config.now }
-    requires config { config.now ≡ L.config }
+    requires config { service.now.base.now.config.now ≡ L.config }
     ensures most { IfOk result (λ s. s.sent + s.failed + s.missed ≤ 64) }
     // A receive that failed was the last.
     ensures once { IfOk result (λ s. s.missed ≤ 1) }
@@ -143,16 +133,10 @@ pub fn delay_round<P: Port + Send, C: Clock, L: Rates, G: Ledger, R: Ledger>(
     ensures unsent { P.sent port.new ≡ P.sent port.old }
     ensures no_fall { HasNotFallen (P.faults port.old) (P.faults port.new) }
 {
-    let service = Service {
-        rt,
-        alloc,
-        shared,
-        config,
-    };
     let mut delays = IDLE;
     let mut buffer = [0; LONGEST_DATAGRAM];
     for _i in 0..MOST_DATAGRAMS {
-        let (one, goes_on) = take_one(&service, port, clock, &mut buffer)?;
+        let (one, goes_on) = take_one(service, port, clock, &mut buffer)?;
         delays.sent += one.sent;
         delays.failed += one.failed;
         delays.missed += one.missed;

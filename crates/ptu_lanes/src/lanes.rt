@@ -1,7 +1,6 @@
 //! The lanes of a grandmaster, with what each keeps from round to round.
 
 ghost use Rattle.std.specs.Prelude.{◌≡◌, ◌+◌, ◌-◌, ◌*◌, ◌^◌, ◌≤◌, ◌<◌, min, Ok, IfOk};
-ghost use Rattle.ptu_profile.specs.Grandmaster.{IsWithinLimits};
 ghost use Rattle.ptu_lanes.specs.Stretches.{ControlLaneDid, EventLaneDid};
 ghost use Rattle.ptu_lanes.specs.Waiting.{PassedBy, TurnedOwn, own_tables};
 
@@ -130,19 +129,11 @@ impl<P: Port + Send, L: Rates, G: Ledger, R: Ledger, W: Wait> Service<'_, P, L, 
         mut lane: ControlLane<P, C, G, R>,
     ) -> Result<ControlLane<P, C, G, R>, OutOfMemory>
         requires ledger { L.parts ≡ 4 }
-        requires limits { IsWithinLimits self.now.config.now }
         requires counts { (lane.seat.granted ≤ 2 ^ 55) × (lane.seat.refused ≤ 2 ^ 55) }
-        ensures { IfOk result (ControlLaneDid P.Port C.Clock L.most self.now.config.now 1 lane) }
+        ensures { IfOk result
+            (ControlLaneDid P.Port C.Clock L.most self.now.base.now.config.now 1 lane) }
     {
-        let control = control_round(
-            self.rt,
-            self.alloc,
-            self.shared,
-            &mut lane.seat,
-            self.config,
-            &mut lane.port,
-            &mut lane.clock,
-        )?;
+        let control = control_round(self, &mut lane.seat, &mut lane.port, &mut lane.clock)?;
         lane.tally = lane.tally.plus(control.sent, control.failed);
         Ok(lane)
     }
@@ -155,8 +146,8 @@ impl<P: Port + Send, L: Rates, G: Ledger, R: Ledger, W: Wait> Service<'_, P, L, 
         ensures waiting { P.waiting port.new ≡ P.waiting port.old }
         ensures quiet { P.faults port.new ≡ P.faults port.old }
     {
-        if rounds.meeting.await_others(self.rt) {
-            self.shared.wait(self.rt, port, last_moment());
+        if rounds.meeting.await_others(self.base.rt) {
+            self.shared.wait(self.base.rt, port, last_moment());
         }
     }
 
@@ -166,18 +157,10 @@ impl<P: Port + Send, L: Rates, G: Ledger, R: Ledger, W: Wait> Service<'_, P, L, 
         rounds: &Rounds,
         mut lane: EventLane<P, C>,
     ) -> Result<EventLane<P, C>, OutOfMemory>
-        requires limits { IsWithinLimits self.now.config.now }
-        requires config { self.now.config.now ≡ L.config }
+        requires config { self.now.base.now.config.now ≡ L.config }
         ensures { IfOk result (EventLaneDid P.Port C.Clock 1 lane) }
     {
-        let delays = delay_round(
-            self.rt,
-            self.alloc,
-            self.shared,
-            self.config,
-            &mut lane.port,
-            &mut lane.clock,
-        )?;
+        let delays = delay_round(self, &mut lane.port, &mut lane.clock)?;
         lane.failed = lane.failed.saturating_add(delays.missed);
         self.wait(rounds, &mut lane.port);
         Ok(lane)
@@ -185,20 +168,12 @@ impl<P: Port + Send, L: Rates, G: Ledger, R: Ledger, W: Wait> Service<'_, P, L, 
 
     // A round of the lane at this position that turns tables.
     fn turn_own<C: Clock>(&self, position: Position, mut lane: SendingLane<C>) -> SendingLane<C>
-        requires limits { IsWithinLimits self.now.config.now }
-        requires config { self.now.config.now ≡ L.config }
+        requires config { self.now.base.now.config.now ≡ L.config }
         requires index { (position.index < position.count) × (position.count ≤ 4) }
         ensures { PassedBy (own_tables position.count position.index)
             (C.moments lane.clock) (C.moments result.clock) }
     {
-        turn_round(
-            self.rt,
-            self.shared,
-            self.config,
-            &mut lane.clock,
-            position.index,
-            position.count,
-        );
+        turn_round(self, &mut lane.clock, position.index, position.count);
         lane
     }
 
@@ -213,15 +188,14 @@ impl<P: Port + Send, L: Rates, G: Ledger, R: Ledger, W: Wait> Service<'_, P, L, 
         lane: ControlLane<P, C, G, R>,
     ) -> Result<ControlLane<P, C, G, R>, OutOfMemory>
         requires ledger { L.parts ≡ 4 }
-        requires limits { IsWithinLimits self.now.config.now }
         requires count { count < 2 ^ 42 }
         requires counts { lane.seat.granted + lane.seat.refused ≤ 2 ^ 54 }
         ensures { IfOk result
-            (ControlLaneDid P.Port C.Clock L.most self.now.config.now count lane) }
+            (ControlLaneDid P.Port C.Clock L.most self.now.base.now.config.now count lane) }
     {
         let mut lane = lane;
         for i in 0..count {
-            lane = rounds.met(self.rt, self.take_signaling(lane))?;
+            lane = rounds.met(self.base.rt, self.take_signaling(lane))?;
         }
         Ok(lane)
     }
@@ -235,14 +209,13 @@ impl<P: Port + Send, L: Rates, G: Ledger, R: Ledger, W: Wait> Service<'_, P, L, 
         rounds: &Rounds,
         lane: EventLane<P, C>,
     ) -> Result<EventLane<P, C>, OutOfMemory>
-        requires limits { IsWithinLimits self.now.config.now }
-        requires config { self.now.config.now ≡ L.config }
+        requires config { self.now.base.now.config.now ≡ L.config }
         ensures { IfOk result (EventLaneDid P.Port C.Clock rounds.now.count lane) }
     {
         let mut lane = lane;
         for i in 0..rounds.count {
-            rounds.begin(self.rt, i)?;
-            lane = rounds.met(self.rt, self.take_delay_reqs(rounds, lane))?;
+            rounds.begin(self.base.rt, i)?;
+            lane = rounds.met(self.base.rt, self.take_delay_reqs(rounds, lane))?;
         }
         Ok(lane)
     }
@@ -257,16 +230,15 @@ impl<P: Port + Send, L: Rates, G: Ledger, R: Ledger, W: Wait> Service<'_, P, L, 
         position: Position,
         lane: SendingLane<C>,
     ) -> Result<SendingLane<C>, OutOfMemory>
-        requires limits { IsWithinLimits self.now.config.now }
-        requires config { self.now.config.now ≡ L.config }
+        requires config { self.now.base.now.config.now ≡ L.config }
         requires index { (position.index < position.count) × (position.count ≤ 4) }
         ensures { IfOk result (λ new.
             TurnedOwn C.Clock position.count position.index rounds.now.count lane.clock new.clock) }
     {
         let mut lane = lane;
         for i in 0..rounds.count {
-            rounds.begin(self.rt, i)?;
-            lane = rounds.met(self.rt, Ok(self.turn_own(position, lane)))?;
+            rounds.begin(self.base.rt, i)?;
+            lane = rounds.met(self.base.rt, Ok(self.turn_own(position, lane)))?;
         }
         Ok(lane)
     }

@@ -18,6 +18,7 @@ mod turns;
 
 pub use delays::{Delays, delay_round};
 pub use laws::sample_changes;
+pub use service::{Base, Service};
 pub use serving::{Ended, Totals, serve_lanes, serve_lanes_within};
 pub use signaling::{Control, control_round};
 pub use turns::turn_round;

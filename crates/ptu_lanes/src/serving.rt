@@ -1,24 +1,24 @@
 //! A grandmaster that is served by lanes, from its ports to its last numbers.
 
 ghost use Rattle.std.specs.Prelude.{◌≡◌, ◌+◌, ◌-◌, ◌^◌, ◌≤◌, ◌<◌, min, [], IfOk};
-ghost use Rattle.ptu_profile.specs.Grandmaster.{IsWithinLimits};
 ghost use Rattle.ptu_shared.specs.{Blanks.{IsBlankOf}, Opening.{seen_of}};
 ghost use Rattle.ptu_config.specs.Limits.{IsGmInRange};
-ghost use Rattle.ptu_lanes.specs.Changing.{greatest_capacity};
+ghost use Rattle.ptu_lanes.specs.Changing.{peak_capacity};
 ghost use Rattle.ptu_lanes.specs.{Ended.{HasEnded}, Served.{TablesAreBack, TablesSent}};
 
 use crate::changing::capacity_at_end;
-use crate::crew::{Blanks, Done, call_all};
+use crate::crew::{Done, call_all};
 use crate::lanes::Lanes;
+use crate::service::Base;
 use ptu_admit::Closed;
 use ptu_config::GmSettings;
 use ptu_outside::{Clock, Opened, Port};
 use ptu_profile::GmConfig;
-use ptu_shared::{PortTally, Rates, Seat, Shared, Tallies};
-use ptu_units::OutOfMemory;
+use ptu_shared::{Blanks, PortTally, Rates, Seat, Shared, Tallies};
+use ptu_units::{Capacity, OutOfMemory};
 use std::alloc::Global;
 use std::marker::Brand;
-use std::sync::ledger::{Blank, Ledger};
+use std::sync::ledger::Ledger;
 use std::sync::{OnceLock, Wait};
 use std::thread::Threads;
 
@@ -85,7 +85,7 @@ fn close<P: Port + Send, C: Clock, L: Rates, G: Ledger, R: Ledger>(
     shared: Shared<P, L, G, R>,
     mut seats: Vec<Seat<G, R>>,
     lanes: Lanes<P, C, G, R>,
-    capacity: u64,
+    capacity: Capacity,
 ) -> Result<(Opened<P, C>, Totals), OutOfMemory>
     requires ledger { (L.parts ≡ 4) × (L.seats ≡ 1) × (G.parts ≡ 1) × (R.parts ≡ 1) }
     requires seats { seats.items ≡ [] }
@@ -111,7 +111,7 @@ fn close<P: Port + Send, C: Clock, L: Rates, G: Ledger, R: Ledger>(
     let Ok((closed, tallies)) = shared.close_with_tallies(seats) else {
         unreachable!()
     };
-    if tallies.capacity != capacity {
+    if tallies.capacity != capacity.get() {
         return Err(OutOfMemory);
     }
     let totals = Totals {
@@ -141,12 +141,10 @@ fn close<P: Port + Send, C: Clock, L: Rates, G: Ledger, R: Ledger>(
 
 // Serves a grandmaster under these ledgers, with at most so many threads.
 fn serve_under<P, C, L, G, R, W>(
-    rt: &W,
-    alloc: Global,
+    base: &Base<'_, W>,
     threads: usize,
     blanks: Blanks,
     settings: &GmSettings,
-    config: &GmConfig,
     opened: Opened<P, C>,
 ) -> Result<Ended<P, C>, OutOfMemory>
 where
@@ -160,21 +158,18 @@ where
     requires granted { IsBlankOf G.name G.parts L.seats blanks.granted }
     requires refused { IsBlankOf R.name R.parts L.seats blanks.refused }
     requires opening { L.opening ≡ settings.now.capacity }
-    requires most { L.most ≡ greatest_capacity settings.now }
+    requires most { L.most ≡ peak_capacity settings.now }
     requires seats { L.seats ≡ 1 }
     requires ports { (seen_of P.Port opened.p0 ≡ L.opened 0)
         × (seen_of P.Port opened.p1 ≡ L.opened 1) × (seen_of P.Port opened.p2 ≡ L.opened 2)
         × (seen_of P.Port opened.p3 ≡ L.opened 3) }
     requires range { IsGmInRange settings.now }
     requires senders { 1 ≤ settings.now.senders }
-    requires limits { IsWithinLimits config.now }
-    requires config { config.now ≡ L.config }
-    ensures { IfOk result (HasEnded P.Port C.Clock settings.now config.now opened) }
+    requires config { base.now.config.now ≡ L.config }
+    ensures { IfOk result (HasEnded P.Port C.Clock settings.now base.now.config.now opened) }
 {
     let gate = OnceLock::new();
-    let done = call_all::<P, C, L, G, R, W>(
-        rt, alloc, &gate, threads, settings, config, blanks, opened,
-    )?;
+    let done = call_all::<P, C, L, G, R, W>(base, &gate, threads, settings, blanks, opened)?;
     let (lanes, seats) = match done {
         Done::Served(lanes, seats) => (lanes, seats),
         Done::Refused(opened) => return Ok(Ended::Refused(opened)),
@@ -207,17 +202,11 @@ where
     W: Threads + Wait + Sync,
     requires range { IsGmInRange settings.now }
     requires senders { 1 ≤ settings.now.senders }
-    requires limits { IsWithinLimits config.now }
     ensures { IfOk result (HasEnded P.Port C.Clock settings.now config.now opened) }
 {
-    let blanks = Blanks {
-        rates: Blank::new(4),
-        granted: Blank::new(1),
-        refused: Blank::new(1),
-    };
-    serve_under::<P, C, Brand, Brand, Brand, W>(
-        rt, alloc, threads, blanks, settings, config, opened,
-    )
+    let base = Base { rt, alloc, config };
+    let blanks = Blanks::of_seats(1);
+    serve_under::<P, C, Brand, Brand, Brand, W>(&base, threads, blanks, settings, opened)
 }
 
 /// Serves a grandmaster of these settings over these ports and clocks, in rounds, by lanes that
@@ -249,7 +238,6 @@ where
     W: Threads + Wait + Sync,
     requires range { IsGmInRange settings.now }
     requires senders { 1 ≤ settings.now.senders }
-    requires limits { IsWithinLimits config.now }
     ensures { IfOk result (HasEnded P.Port C.Clock settings.now config.now opened) }
 {
     serve_lanes_within(rt, alloc, usize::MAX, settings, config, opened)

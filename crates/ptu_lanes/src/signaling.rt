@@ -2,18 +2,15 @@
 
 ghost use Rattle.std.specs.Prelude.{◌≡◌, ◌+◌, ◌^◌, ◌≤◌, ℕ, List, [], length, true, false, if◌then◌else◌, IfOk, IfSome, OnErr};
 ghost use Rattle.ptu_outside.specs.Faults.{HasNotFallen, HasRisen, HasRisenBy, HasRisenJust};
-ghost use Rattle.ptu_profile.specs.Grandmaster.{IsWithinLimits};
 ghost use Rattle.ptu_lanes.specs.Rounds.{BrokeOff, Exchange, Exchanged, HasServed, IsRound, IsUnanswered};
 ghost use Rattle.ptu_lanes.specs.Waiting.{PassedBy};
 
 use crate::answering::{Origin, answer_datagram};
 use crate::service::Service;
 use ptu_outside::{Clock, Port};
-use ptu_profile::GmConfig;
-use ptu_shared::{Rates, Seat, Shared};
+use ptu_shared::{Rates, Seat};
 use ptu_units::OutOfMemory;
 use ptu_units::sizes::LONGEST_DATAGRAM;
-use std::alloc::Global;
 use std::sync::Wait;
 use std::sync::ledger::Ledger;
 
@@ -48,12 +45,11 @@ fn take_one<P: Port + Send, C: Clock, L: Rates, G: Ledger, R: Ledger, W: Wait>(
     buffer: &mut [u8; LONGEST_DATAGRAM],
 ) -> Result<(Control, bool), OutOfMemory>
     requires ledger { L.parts ≡ 4 }
-    requires limits { IsWithinLimits service.now.config.now }
     requires counts { (seat.old.granted + 32 ≤ 2 ^ 56) × (seat.old.refused + 32 ≤ 2 ^ 56) }
     ensures served { IfOk result (λ r. (exchanges : List Exchange)
         × (length exchanges ≡ (if r.1 then 1 else 0))
         × (missed : ℕ) × (missed ≡ (if r.1 then 0 else r.0.failed))
-        × HasServed P.Port L.most service.now.config.now exchanges port.old port.new
+        × HasServed P.Port L.most service.now.base.now.config.now exchanges port.old port.new
         seat.old seat.new r.0.asks r.0.sent r.0.failed missed) }
     ensures failed { IfOk result (λ r. r.0.failed ≤ 1) }
     ensures end { IfOk result (λ r. r.1 ≡ false
@@ -87,17 +83,13 @@ fn take_one<P: Port + Send, C: Clock, L: Rates, G: Ledger, R: Ledger, W: Wait>(
 /// # Errors
 /// `OutOfMemory`, with the exchanges so far, which are finished. The datagram at which it comes is
 /// taken and not answered; what was decided of it stands, and the seat has counted that.
-pub fn control_round<P: Port + Send, C: Clock, L: Rates, G: Ledger, R: Ledger>(
-    rt: &impl Wait,
-    alloc: Global,
-    shared: &Shared<P, L, G, R>,
+pub fn control_round<P: Port + Send, C: Clock, L: Rates, G: Ledger, R: Ledger, W: Wait>(
+    service: &Service<'_, P, L, G, R, W>,
     seat: &mut Seat<G, R>,
-    config: &GmConfig,
     port: &mut P,
     clock: &mut C,
 ) -> Result<Control, OutOfMemory>
     requires ledger { L.parts ≡ 4 }
-    requires limits { IsWithinLimits config.now }
     requires counts { (seat.old.granted ≤ 2 ^ 55) × (seat.old.refused ≤ 2 ^ 55) }
     // The seat's two counts rose together by the asks.
     ensures counts { IfOk result (λ c. seat.new.granted + seat.new.refused
@@ -108,14 +100,15 @@ pub fn control_round<P: Port + Send, C: Clock, L: Rates, G: Ledger, R: Ledger>(
     // Where the port tells what waits, and its count did not rise, these are the datagrams that it
     // took, what answered them, and what was counted.
     ensures round { IfOk result (λ c. ¬ HasRisen (P.faults port.old) (P.faults port.new) →
-        IfSome (P.waiting port.new) (λ left. IsRound P.Port L.most config.now port.old port.new left
-        seat.old.granted seat.new.granted c.asks c.sent)) }
+        IfSome (P.waiting port.new) (λ left. IsRound P.Port L.most service.now.base.now.config.now
+        port.old port.new left seat.old.granted seat.new.granted c.asks c.sent)) }
     // Whatever its count did, and whether or not it tells: what was taken, answered and counted,
     // what was sent, and that a failed receive was the last.
-    ensures exchanged { IfOk result (λ c. Exchanged P.Port C.Clock L.most config.now 1
-        c.sent c.failed port.old port.new clock.old clock.new seat.old seat.new) }
-    ensures broke_off { OnErr result (BrokeOff P.Port C.Clock L.most config.now
-        port.old port.new clock.old clock.new seat.old seat.new) }
+    ensures exchanged { IfOk result (λ c. Exchanged P.Port C.Clock L.most
+        service.now.base.now.config.now 1 c.sent c.failed port.old port.new
+        clock.old clock.new seat.old seat.new) }
+    ensures broke_off { OnErr result (BrokeOff P.Port C.Clock L.most
+        service.now.base.now.config.now port.old port.new clock.old clock.new seat.old seat.new) }
     // Each call that failed is a fault, and there are no other faults.
     ensures failed { IfOk result (λ c.
         HasRisenBy c.failed (P.faults port.old) (P.faults port.new)) }
@@ -125,16 +118,10 @@ pub fn control_round<P: Port + Send, C: Clock, L: Rates, G: Ledger, R: Ledger>(
         → P.faults port.new ≡ P.faults port.old) }
     ensures no_fall { IfOk result (λ c. HasNotFallen (P.faults port.old) (P.faults port.new)) }
 {
-    let service = Service {
-        rt,
-        alloc,
-        shared,
-        config,
-    };
     let mut control = IDLE;
     let mut buffer = [0; LONGEST_DATAGRAM];
     for _i in 0..MOST_DATAGRAMS {
-        let (one, goes_on) = take_one(&service, seat, port, clock, &mut buffer)?;
+        let (one, goes_on) = take_one(service, seat, port, clock, &mut buffer)?;
         control.asks += one.asks;
         control.sent += one.sent;
         control.failed += one.failed;

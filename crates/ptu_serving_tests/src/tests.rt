@@ -5,5 +5,6 @@ mod refused_threads;
 mod staged;
 mod table_ports;
 mod two_steps;
+mod values;
 mod waiting;
 mod waits;

@@ -5,7 +5,6 @@ ghost use Rattle.std.specs.Option.{option_map};
 ghost use Rattle.ptu_history.specs.{Client.{table_of as table_of_client}, History.{Record}};
 ghost use Rattle.ptu_history.specs.{Events.{Request}, Step.{step}};
 ghost use Rattle.ptu_history.specs.Verdict.{verdict as verdict_after};
-ghost use Rattle.ptu_profile.specs.Grandmaster.{IsWithinLimits};
 ghost use Rattle.ptu_admit.specs.Alone.{GoesOnAlone};
 ghost use Rattle.ptu_admit.specs.Lent.{Lent, StandFor, four, is_lent, live_others, moment_for, table_for};
 ghost use Rattle.ptu_admit.specs.Rows.{kept_rate};
@@ -40,7 +39,6 @@ pub(crate) fn ask_one<P: Port, L: Rates, G: Ledger, R: Ledger, J: Place>(
     desk: &mut Desk<L, G, R>,
     demand: &Demand<'_>,
 ) -> Option<Verdict>
-    requires limits { IsWithinLimits demand.now.config.now }
     requires room { 0 < table.old.shard.spare }
     requires table { table_of_client demand.now.client.now ≡ J.index }
     ensures answer { option_map verdict_of result
@@ -102,7 +100,6 @@ pub(crate) fn ask_all<P: Port, L: Rates, G: Ledger, R: Ledger>(
     demand: &Demand<'_>,
 ) -> Verdict
     requires ledger { L.parts ≡ 4 }
-    requires limits { IsWithinLimits demand.now.config.now }
     requires room { (table_of_client demand.now.client.now ≡ 0 → 0 < t0.old.shard.spare)
         × (table_of_client demand.now.client.now ≡ 1 → 0 < t1.old.shard.spare)
         × (table_of_client demand.now.client.now ≡ 2 → 0 < t2.old.shard.spare)

@@ -4,7 +4,6 @@ ghost use Rattle.std.specs.Prelude.{◌≡◌, ℕ, ◌+◌, ◌≤◌, max, fal
 ghost use Rattle.ptu_history.specs.{Client.{table_of as table_of_client}, History.{Record}};
 ghost use Rattle.ptu_history.specs.{Live.{live}, Verdict.{Config}, Events.{Cancel, Resize}};
 ghost use Rattle.ptu_history.specs.{Shedding.{shed_grants}, Step.{step}};
-ghost use Rattle.ptu_units.specs.Limits.{IsCapacity};
 ghost use Rattle.ptu_admit.specs.Alone.{GoesOnAlone};
 ghost use Rattle.ptu_admit.specs.Lent.{Lent, StandFor, four, is_lent, moment_for_all, shares, table_for};
 ghost use Rattle.ptu_admit.specs.{Rows.{has_live_row}, Shed.{shed_of}, Tables.{IsSwept}};
@@ -16,7 +15,7 @@ use crate::table::Table;
 use ptu_admit::{Cancelled, Resized, cancel, finish, resize};
 use ptu_history::Client;
 use ptu_outside::Port;
-use ptu_units::{Kind, Moment, OutOfMemory};
+use ptu_units::{Capacity, Kind, Moment, OutOfMemory};
 use std::alloc::Global;
 use std::sync::ledger::Ledger;
 
@@ -59,7 +58,7 @@ pub(crate) fn cancel_one<P: Port, L: Rates, G: Ledger, R: Ledger, J: Place>(
 pub(crate) struct Change {
     pub alloc: Global,
     pub at: Moment,
-    pub capacity: u64,
+    pub capacity: Capacity,
 }
 
 // Changes the capacity in force by `resize`, under all four tables, in order of index, and the
@@ -73,7 +72,6 @@ pub(crate) fn resize_all<P: Port, L: Rates, G: Ledger, R: Ledger>(
     change: Change,
 ) -> Result<Resized, OutOfMemory>
     requires ledger { L.parts ≡ 4 }
-    requires capacity { IsCapacity change.capacity }
     requires most { change.capacity ≤ L.most }
     ensures at { IfOk result (λ r. r.at ≡ moment_for_all change.at desk.old.book
         (four t0.old.shard t1.old.shard t2.old.shard t3.old.shard)) }

@@ -3,7 +3,6 @@
 
 ghost use Rattle.std.specs.Prelude.{◌≡◌, ◌≤◌, ◌<◌, ◌+◌, ◌*◌, ◌^◌, IfOk, replicate};
 ghost use Rattle.ptu_shard.specs.Row.{share_of};
-ghost use Rattle.ptu_units.specs.Limits.{IsCapacity};
 ghost use Rattle.ptu_admit.specs.Lent.{four, shares};
 ghost use Rattle.ptu_shared.specs.{Blanks.{IsBlankOf}, Seats.{counting, no_verdicts}};
 
@@ -13,7 +12,7 @@ use crate::seat::{FULL, Seat};
 use crate::table::Table;
 use ptu_admit::{Book, Verdict};
 use ptu_outside::Port;
-use ptu_units::OutOfMemory;
+use ptu_units::{Capacity, OutOfMemory};
 use std::alloc::Global;
 use std::sync::ledger::{self, Blank, Ledger, Share};
 
@@ -104,13 +103,12 @@ pub(crate) fn open_desk<L: Rates, G: Ledger, R: Ledger>(
     rates: ledger::Book<L>,
     granted: Blank,
     refused: Blank,
-    capacity: u64,
+    capacity: Capacity,
     seats: usize,
 ) -> Result<(Desk<L, G, R>, Vec<Seat<G, R>>), OutOfMemory>
     requires rates { rates.total ≡ 0 }
     requires granted { IsBlankOf G.name G.parts L.seats granted }
     requires refused { IsBlankOf R.name R.parts L.seats refused }
-    requires capacity { IsCapacity capacity }
     requires opening { capacity ≡ L.opening }
     requires most { capacity ≤ L.most }
     requires seats { (1 ≤ seats) × (seats ≤ 64) × (seats ≡ L.seats) }

@@ -5,8 +5,6 @@
 ghost use Rattle.std.specs.Prelude.{◌≡◌, ◌≤◌, ℕ, IfOk, IfSome, OnOk, [], max};
 ghost use Rattle.ptu_history.specs.Client.{table_of};
 ghost use Rattle.ptu_shard.specs.{Answered.{moment_of_answer}, Table.{StandsFor}};
-ghost use Rattle.ptu_profile.specs.Grandmaster.{IsWithinLimits};
-ghost use Rattle.ptu_units.specs.Limits.{IsCapacity};
 ghost use Rattle.ptu_shared.specs.{Answers.{AnswersAsk}, Delays.{IsLaterIfTooSoon}};
 ghost use Rattle.ptu_shared.specs.{Histories.{SendsCounted}, Opening.{seen_of}};
 
@@ -69,7 +67,6 @@ impl<P: Port, L: Rates, J: Place> LawfulTable<P, L, J> {
 
     // A turn of the table, by `Table::turn`.
     pub fn turn(&mut self, config: &GmConfig, table: usize, t: Moment) -> Turned
-        requires limits { IsWithinLimits config.now }
         requires config { config.now ≡ L.config }
         requires table { table ≡ J.index }
         ensures { result.at ≡ max t self.old.moment }
@@ -85,7 +82,6 @@ impl<P: Port, L: Rates, J: Place> LawfulTable<P, L, J> {
         client: &Client,
         request: &Header,
     ) -> Answered
-        requires limits { IsWithinLimits config.now }
         requires config { config.now ≡ L.config }
         requires table { table_of client.now ≡ J.index }
         ensures at { moment_of_answer result ≡ max t self.old.moment }
@@ -117,7 +113,6 @@ pub(crate) fn ask_lawful<P: Port, L: Rates, G: Ledger, R: Ledger, J: Place>(
     desk: &mut Desk<L, G, R>,
     demand: &Demand<'_>,
 ) -> Option<Verdict>
-    requires limits { IsWithinLimits demand.now.config.now }
     requires room { 1 ≤ table.old.spare }
     requires table { table_of demand.now.client.now ≡ J.index }
     ensures { IfSome result
@@ -137,7 +132,6 @@ pub(crate) fn ask_all_lawful<P: Port, L: Rates, G: Ledger, R: Ledger>(
     demand: &Demand<'_>,
 ) -> Verdict
     requires ledger { L.parts ≡ 4 }
-    requires limits { IsWithinLimits demand.now.config.now }
     requires room { (table_of demand.now.client.now ≡ 0 → 1 ≤ t0.old.spare)
         × (table_of demand.now.client.now ≡ 1 → 1 ≤ t1.old.spare)
         × (table_of demand.now.client.now ≡ 2 → 1 ≤ t2.old.spare)
@@ -179,7 +173,6 @@ pub(crate) fn resize_lawful<P: Port, L: Rates, G: Ledger, R: Ledger>(
     change: Change,
 ) -> Result<Resized, OutOfMemory>
     requires ledger { L.parts ≡ 4 }
-    requires capacity { IsCapacity change.capacity }
     requires most { change.capacity ≤ L.most }
     ensures { IfOk result (λ r. change.at ≤ r.at) }
 {

@@ -12,6 +12,7 @@ mod changing;
 mod closing;
 mod desk;
 mod lawful;
+mod opening;
 mod place;
 mod rates;
 pub mod samples;
@@ -21,6 +22,7 @@ mod table;
 mod tally;
 
 pub use closing::CloseFault;
+pub use opening::{Blanks, TablePorts};
 pub use rates::Rates;
 pub use seat::Seat;
 pub use shared::Shared;

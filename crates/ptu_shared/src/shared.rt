@@ -3,8 +3,6 @@
 ghost use Rattle.std.specs.Prelude.{◌≡◌, ◌≤◌, ◌<◌, ◌^◌, IfNone, IfOk, IfSome, OnErr, replicate};
 ghost use Rattle.ptu_history.specs.Client.{table_of as table_of_client};
 ghost use Rattle.ptu_shard.specs.Answered.{moment_of_answer};
-ghost use Rattle.ptu_profile.specs.Grandmaster.{IsWithinLimits};
-ghost use Rattle.ptu_units.specs.Limits.{IsCapacity};
 ghost use Rattle.ptu_shared.specs.{Answers.{AnswersAsk}, Blanks.{IsBlankOf}};
 ghost use Rattle.ptu_shared.specs.{Delays.{IsLaterIfTooSoon}, Opening.{seen_of}};
 ghost use Rattle.ptu_shared.specs.Seats.{counting, no_verdicts};
@@ -13,6 +11,7 @@ use crate::asking::Demand;
 use crate::changing::Change;
 use crate::desk::{Desk, open_desk};
 use crate::lawful::{LawfulTable, ask_all_lawful, ask_lawful, cancel_lawful, resize_lawful};
+use crate::opening::{Blanks, TablePorts};
 use crate::place::{First, Fourth, Place, Second, Third};
 use crate::rates::Rates;
 use crate::seat::Seat;
@@ -23,9 +22,9 @@ use ptu_messages::{Ask, Header};
 use ptu_outside::Port;
 use ptu_profile::GmConfig;
 use ptu_shard::{Answered, Turned};
-use ptu_units::{Kind, Moment, OutOfMemory};
+use ptu_units::{Capacity, Kind, Moment, OutOfMemory};
 use std::alloc::Global;
-use std::sync::ledger::{Blank, Ledger};
+use std::sync::ledger::Ledger;
 use std::sync::{Mutex, Wait};
 
 /// The four tables of a grandmaster and its book, each behind a lock of its own.
@@ -45,8 +44,8 @@ pub struct Shared<P: Port + Send, L: Rates, G: Ledger, R: Ledger> {
 }
 
 impl<P: Port + Send, L: Rates, G: Ledger, R: Ledger> Shared<P, L, G, R> {
-    /// Four tables without grants, of this capacity in sixteenths of a message per second, at
-    /// moment 0, whose messages go by these ports, and all seats from which asks are counted.
+    /// Four tables without grants, of this capacity, at moment 0, whose messages go by these ports,
+    /// and all seats from which asks are counted.
     ///
     /// The blanks become the ledgers: that of rates has four parts, and those of granted and
     /// refused asks have one for each seat. A caller makes the three and calls a function that is
@@ -57,27 +56,29 @@ impl<P: Port + Send, L: Rates, G: Ledger, R: Ledger> Shared<P, L, G, R> {
     /// `OutOfMemory`, with the ports and the blanks dropped.
     pub fn new(
         alloc: Global,
-        rates: Blank,
-        granted: Blank,
-        refused: Blank,
-        capacity: u64,
+        blanks: Blanks,
+        capacity: Capacity,
         seats: usize,
-        p0: P,
-        p1: P,
-        p2: P,
-        p3: P,
+        ports: TablePorts<P>,
     ) -> Result<(Shared<P, L, G, R>, Vec<Seat<G, R>>), OutOfMemory>
-        requires rates { IsBlankOf L.name L.parts 4 rates }
-        requires granted { IsBlankOf G.name G.parts L.seats granted }
-        requires refused { IsBlankOf R.name R.parts L.seats refused }
-        requires capacity { IsCapacity capacity }
+        requires rates { IsBlankOf L.name L.parts 4 blanks.rates }
+        requires granted { IsBlankOf G.name G.parts L.seats blanks.granted }
+        requires refused { IsBlankOf R.name R.parts L.seats blanks.refused }
         requires opening { capacity ≡ L.opening }
         requires most { capacity ≤ L.most }
-        requires ports { (seen_of P.Port p0 ≡ L.opened 0) × (seen_of P.Port p1 ≡ L.opened 1)
-            × (seen_of P.Port p2 ≡ L.opened 2) × (seen_of P.Port p3 ≡ L.opened 3) }
+        requires ports { (seen_of P.Port ports.p0 ≡ L.opened 0)
+            × (seen_of P.Port ports.p1 ≡ L.opened 1)
+            × (seen_of P.Port ports.p2 ≡ L.opened 2)
+            × (seen_of P.Port ports.p3 ≡ L.opened 3) }
         requires seats { (1 ≤ seats) × (seats ≤ 64) × (seats ≡ L.seats) }
         ensures seats { IfOk result (λ made. made.1.items ≡ replicate seats no_verdicts) }
     {
+        let Blanks {
+            rates,
+            granted,
+            refused,
+        } = blanks;
+        let TablePorts { p0, p1, p2, p3 } = ports;
         let (rates, mut part) = rates.open::<L>();
         let part3 = part.split_off(1, 0);
         let part2 = part.split_off(1, 0);
@@ -110,7 +111,6 @@ impl<P: Port + Send, L: Rates, G: Ledger, R: Ledger> Shared<P, L, G, R> {
         ask: &Ask,
     ) -> Result<Verdict, OutOfMemory>
         requires ledger { L.parts ≡ 4 }
-        requires limits { IsWithinLimits config.now }
         requires counts { (seat.old.granted < 2 ^ 56) × (seat.old.refused < 2 ^ 56) }
         ensures verdict { IfOk result (AnswersAsk L.most config.now t client.now ask.now) }
         // The granted count rises by 1 exactly at Granted, the refused count exactly at Short.
@@ -145,7 +145,6 @@ impl<P: Port + Send, L: Rates, G: Ledger, R: Ledger> Shared<P, L, G, R> {
         demand: &Demand<'_>,
     ) -> Result<Option<Verdict>, OutOfMemory>
         requires table { table_of_client demand.now.client.now ≡ J.index }
-        requires limits { IsWithinLimits demand.now.config.now }
         requires counts { (seat.old.granted < 2 ^ 56) × (seat.old.refused < 2 ^ 56) }
         ensures verdict { IfOk result (λ o. IfSome o
             (AnswersAsk L.most demand.now.config.now demand.now.at demand.now.client.now
@@ -172,7 +171,6 @@ impl<P: Port + Send, L: Rates, G: Ledger, R: Ledger> Shared<P, L, G, R> {
         demand: &Demand<'_>,
     ) -> Result<Verdict, OutOfMemory>
         requires ledger { L.parts ≡ 4 }
-        requires limits { IsWithinLimits demand.now.config.now }
         requires counts { (seat.old.granted < 2 ^ 56) × (seat.old.refused < 2 ^ 56) }
         ensures verdict { IfOk result
             (AnswersAsk L.most demand.now.config.now demand.now.at demand.now.client.now
@@ -225,14 +223,18 @@ impl<P: Port + Send, L: Rates, G: Ledger, R: Ledger> Shared<P, L, G, R> {
         cancel_lawful(&mut table, &mut desk, t, client, kind)
     }
 
-    /// Changes the capacity in force to this many sixteenths of a message per second, at a moment
-    /// that is not before `t`. Where the live grants are above it, the newest are shed.
+    /// Changes the capacity in force to this one, at a moment that is not before `t`. Where the
+    /// live grants are above it, the newest are shed.
     ///
     /// # Errors
     /// After `OutOfMemory` nothing has changed.
-    pub fn resize(&self, rt: &impl Wait, t: Moment, capacity: u64) -> Result<Resized, OutOfMemory>
+    pub fn resize(
+        &self,
+        rt: &impl Wait,
+        t: Moment,
+        capacity: Capacity,
+    ) -> Result<Resized, OutOfMemory>
         requires ledger { L.parts ≡ 4 }
-        requires capacity { IsCapacity capacity }
         requires most { capacity ≤ L.most }
         ensures { IfOk result (λ r. t ≤ r.at) }
     {
@@ -251,7 +253,6 @@ impl<P: Port + Send, L: Rates, G: Ledger, R: Ledger> Shared<P, L, G, R> {
 
     /// A turn of the table of this index, at a moment that is not before `t`.
     pub fn turn(&self, rt: &impl Wait, config: &GmConfig, table: usize, t: Moment) -> Turned
-        requires limits { IsWithinLimits config.now }
         requires config { config.now ≡ L.config }
         requires table { table < 4 }
         ensures { t ≤ result.at }
@@ -273,7 +274,6 @@ impl<P: Port + Send, L: Rates, G: Ledger, R: Ledger> Shared<P, L, G, R> {
         client: &Client,
         request: &Header,
     ) -> Answered
-        requires limits { IsWithinLimits config.now }
         requires config { config.now ≡ L.config }
         ensures at { t ≤ moment_of_answer result }
         ensures earliest { IsLaterIfTooSoon result }

@@ -10,7 +10,6 @@ ghost use Rattle.ptu_history.specs.Turns.{due_grants, message_of};
 ghost use Rattle.ptu_shard.specs.Answered.{failed_by, met_by, moment_of_answer, responses, sent_by};
 ghost use Rattle.ptu_shard.specs.{Messages.{departure_of, response_of}, Row.{share_of}};
 ghost use Rattle.ptu_shard.specs.{Table.{StandsBeside, StandsFor}, Turn.{due_messages}};
-ghost use Rattle.ptu_profile.specs.Grandmaster.{IsWithinLimits};
 ghost use Rattle.ptu_shared.specs.{Delays.{IsLaterIfTooSoon}, Opening.{AreCounted, seen_of}};
 
 use crate::place::Place;
@@ -100,7 +99,6 @@ impl<P: Port, L: Rates, J: Place> Table<P, L, J> {
 
     // A turn of the table, whose index is handed in, by `Shard::turn`.
     pub fn turn(&mut self, config: &GmConfig, table: usize, t: Moment) -> Turned
-        requires limits { IsWithinLimits config.now }
         requires table { table ≡ J.index }
         ensures at { result.at ≡ max t self.old.shard.moment }
         ensures moment { self.new.shard.moment ≡ result.at }
@@ -133,7 +131,6 @@ impl<P: Port, L: Rates, J: Place> Table<P, L, J> {
         client: &Client,
         request: &Header,
     ) -> Answered
-        requires limits { IsWithinLimits config.now }
         requires table { table_of client.now ≡ J.index }
         ensures at { moment_of_answer result ≡ max t self.old.shard.moment }
         ensures moment { self.new.shard.moment ≡ max t self.old.shard.moment }

@@ -1,20 +1,19 @@
 ghost use Rattle.std.specs.Prelude.{◌≡◌, ◌≤◌, ℕ, length, IfOk};
-ghost use Rattle.ptu_units.specs.Limits.{IsCapacity};
 ghost use Rattle.ptu_shared.specs.{Blanks.{IsBlankOf}, Opening.{idle_port, sample_config}};
 
 use ptu_admit::{Closed, Verdict};
 use ptu_history::Client;
-use ptu_lanes::{Control, Delays, control_round, delay_round, turn_round};
+use ptu_lanes::{Base, Control, Delays, Service, control_round, delay_round, turn_round};
 use ptu_messages::Ask;
 use ptu_outside::{Arrival, Channel, Datagram, MemClock, MemPort, Sends, samples};
 use ptu_shard::samples::{CONFIG, ONE, TWO, ZERO};
-use ptu_shared::{Rates, Seat, Shared};
-use ptu_units::Moment;
+use ptu_shared::{Blanks, Rates, Seat, Shared, TablePorts};
+use ptu_units::{Capacity, Moment};
 use std::alloc::Global;
 use std::marker::Brand;
 use std::process::Abort;
 use std::sync::Wait;
-use std::sync::ledger::{Blank, Ledger};
+use std::sync::ledger::Ledger;
 use std::test::Fail;
 
 // A REQUEST of Announce of the client of table 2 at logarithm 1 for 300 s, to every port.
@@ -77,7 +76,16 @@ fn round<L: Rates, G: Ledger, R: Ledger, W: Wait + Abort>(
     let seat = &mut seats[0];
     assert!(rt; seat.granted() <= 1 << 47 && seat.refused() <= 1 << 47);
     let mut clock = MemClock::new(Vec::new(alloc));
-    let control = control_round(rt, alloc, shared, seat, &CONFIG, port, &mut clock);
+    let base = Base {
+        rt,
+        alloc,
+        config: &CONFIG,
+    };
+    let service = Service {
+        base: &base,
+        shared,
+    };
+    let control = control_round(&service, seat, port, &mut clock);
     control.expect(rt, "memory is found")
 }
 
@@ -141,7 +149,7 @@ fn ask_twice<L: Rates, G: Ledger, R: Ledger, W: Wait + Abort>(
 
 #[test]
 fn a_request_is_answered_once(rt: HostRuntime) -> Result<(), Fail> {
-    run(&rt, rt.alloc(), 8, Scene::Requests)
+    run(&rt, rt.alloc(), Capacity::SAMPLE, Scene::Requests)
 }
 
 // The client is granted the kind of this code, at logarithm 0.
@@ -193,7 +201,16 @@ fn answer_and_turn<L: Rates, G: Ledger, R: Ledger, W: Wait + Abort>(
 {
     let second = Moment::of(1_000_000_000).expect(rt, "a moment is below 2^62");
     let mut clock = MemClock::new(vec![in alloc; second]?);
-    let answered = delay_round(rt, alloc, shared, &CONFIG, port, &mut clock)?;
+    let base = Base {
+        rt,
+        alloc,
+        config: &CONFIG,
+    };
+    let service = Service {
+        base: &base,
+        shared,
+    };
+    let answered = delay_round(&service, port, &mut clock)?;
     let sent = Delays {
         sent: 1,
         failed: 0,
@@ -201,7 +218,7 @@ fn answer_and_turn<L: Rates, G: Ledger, R: Ledger, W: Wait + Abort>(
     };
     assert!(rt; answered == sent);
     assert!(rt; port.sent(0).is_none());
-    let turned = turn_round(rt, shared, &CONFIG, &mut clock, 1, 2);
+    let turned = turn_round(&service, &mut clock, 1, 2);
     assert!(rt; turned == Sends { sent: 1, failed: 0 });
     Ok(())
 }
@@ -260,7 +277,8 @@ fn send_and_close<L: Rates, G: Ledger, R: Ledger, W: Wait + Abort>(
 
 #[test]
 fn lanes_answer_and_turn(rt: HostRuntime) -> Result<(), Fail> {
-    run(&rt, rt.alloc(), 64, Scene::Lanes)
+    let capacity = Capacity::of(64).ok_or("a capacity is within its limits")?;
+    run(&rt, rt.alloc(), capacity, Scene::Lanes)
 }
 
 // What is done with shared tables.
@@ -274,14 +292,14 @@ enum Scene {
 fn play<L: Rates, G: Ledger, R: Ledger, W: Wait + Abort>(
     rt: &W,
     alloc: Global,
-    blanks: (Blank, Blank, Blank),
-    capacity: u64,
+    blanks: Blanks,
+    capacity: Capacity,
     scene: Scene,
 ) -> Result<(), Fail>
-    requires rates { IsBlankOf L.name L.parts 4 blanks.0 }
-    requires granted { IsBlankOf G.name G.parts L.seats blanks.1 }
-    requires refused { IsBlankOf R.name R.parts L.seats blanks.2 }
-    requires capacity { (IsCapacity capacity) × (capacity ≤ L.most) }
+    requires rates { IsBlankOf L.name L.parts 4 blanks.rates }
+    requires granted { IsBlankOf G.name G.parts L.seats blanks.granted }
+    requires refused { IsBlankOf R.name R.parts L.seats blanks.refused }
+    requires most { capacity ≤ L.most }
     requires opening { capacity ≡ L.opening }
     requires config { L.config ≡ sample_config }
     requires seats { L.seats ≡ 1 }
@@ -289,10 +307,8 @@ fn play<L: Rates, G: Ledger, R: Ledger, W: Wait + Abort>(
 {
     let (p0, p1) = (samples::idle_port(alloc), samples::idle_port(alloc));
     let (p2, p3) = (samples::idle_port(alloc), samples::idle_port(alloc));
-    let (rates, granted, refused) = blanks;
-    let (shared, mut seats) = Shared::<MemPort, L, G, R>::new(
-        alloc, rates, granted, refused, capacity, 1, p0, p1, p2, p3,
-    )?;
+    let ports = TablePorts { p0, p1, p2, p3 };
+    let (shared, mut seats) = Shared::<MemPort, L, G, R>::new(alloc, blanks, capacity, 1, ports)?;
     match scene {
         Scene::Requests => ask_twice(rt, alloc, &shared, seats.as_mut_slice()),
         Scene::Lanes => send_and_close(rt, alloc, shared, seats),
@@ -300,9 +316,12 @@ fn play<L: Rates, G: Ledger, R: Ledger, W: Wait + Abort>(
 }
 
 // Plays the scene with this capacity.
-fn run<W: Wait + Abort>(rt: &W, alloc: Global, capacity: u64, scene: Scene) -> Result<(), Fail>
-    requires { IsCapacity capacity }
-{
-    let blanks = (Blank::new(4), Blank::new(1), Blank::new(1));
+fn run<W: Wait + Abort>(
+    rt: &W,
+    alloc: Global,
+    capacity: Capacity,
+    scene: Scene,
+) -> Result<(), Fail> {
+    let blanks = Blanks::of_seats(1);
     play::<Brand, Brand, Brand, W>(rt, alloc, blanks, capacity, scene)
 }

@@ -1,7 +1,7 @@
-ghost use Rattle.std.specs.Prelude.{◌≤◌};
 ghost use Rattle.ptu_config.specs.Limits.{IsGmInRange};
 
 use super::staged::assert_said;
+use super::values::{capacity_of, senders_of};
 use super::waiting::{ANNOUNCE, CLIENT, asking, grant, port};
 use ptu_config::GmSettings;
 use ptu_config::samples::GM_SETTINGS;
@@ -39,17 +39,15 @@ fn assert_line(
     host
 }
 
-// The ask is granted by so many senders, and the grant is sent.
+// The ask is granted by so many lanes, and the grant is sent.
 fn assert_granted(
     rt: &(impl Abort + Threads + Wait + Sync),
     alloc: Global,
-    senders: u8,
-) -> Result<(), Fail>
-    requires { senders ≤ 4 }
-{
+    lanes: u64,
+) -> Result<(), Fail> {
     let grant = hex::decode(alloc, grant(alloc, ANNOUNCE)?.as_str())?;
     let settings = GmSettings {
-        senders,
+        senders: senders_of(rt, lanes),
         ..GM_SETTINGS
     };
     let line = "rounds 1 sent 1 failed 0 granted 1 refused 0 held 8\n";
@@ -65,17 +63,15 @@ fn assert_granted(
 fn assert_shed(
     rt: &(impl Abort + Threads + Wait + Sync),
     alloc: Global,
-    senders: u8,
+    lanes: u64,
     again: bool,
-) -> Result<(), Fail>
-    requires { senders ≤ 4 }
-{
+) -> Result<(), Fail> {
     let settings = GmSettings {
         rounds: if again { 1 } else { 2 },
         repeat: if again { 2 } else { 1 },
         change_round: 2,
-        new_capacity: Some(4),
-        senders,
+        new_capacity: Some(capacity_of(rt, 4)),
+        senders: senders_of(rt, lanes),
         ..GM_SETTINGS
     };
     let line = "rounds 2 sent 2 failed 0 granted 1 refused 0 held 0\n";
@@ -86,10 +82,10 @@ fn assert_shed(
 // By one thread and by lanes.
 #[test]
 fn an_ask_is_granted_and_its_grant_shed(rt: HostRuntime) -> Result<(), Fail> {
-    for senders in [0, 2] {
-        assert_granted(&rt, rt.alloc(), senders)?;
-        assert_shed(&rt, rt.alloc(), senders, false)?;
-        assert_shed(&rt, rt.alloc(), senders, true)?;
+    for lanes in [0, 2] {
+        assert_granted(&rt, rt.alloc(), lanes)?;
+        assert_shed(&rt, rt.alloc(), lanes, false)?;
+        assert_shed(&rt, rt.alloc(), lanes, true)?;
     }
     Ok(())
 }
@@ -109,7 +105,7 @@ fn failed_calls_are_counted(rt: HostRuntime) -> Result<(), Fail> {
     let line = "rounds 1 sent 0 failed 1 granted 0 refused 0 held 0\n";
     drop(assert_line(&rt, alloc, &GM_SETTINGS, failing(alloc)?, line));
     let lanes = GmSettings {
-        senders: 2,
+        senders: senders_of(&rt, 2),
         ..GM_SETTINGS
     };
     drop(assert_line(&rt, alloc, &lanes, failing(alloc)?, line));
@@ -129,15 +125,13 @@ fn failed_calls_are_counted(rt: HostRuntime) -> Result<(), Fail> {
 fn assert_repeated(
     rt: &(impl Abort + Threads + Wait + Sync),
     alloc: Global,
-    senders: u8,
-) -> Result<(), Fail>
-    requires { senders ≤ 4 }
-{
+    lanes: u64,
+) -> Result<(), Fail> {
     let settings = GmSettings {
         repeat: 3,
         change_round: 4,
-        new_capacity: Some(4),
-        senders,
+        new_capacity: Some(capacity_of(rt, 4)),
+        senders: senders_of(rt, lanes),
         ..GM_SETTINGS
     };
     let line = "rounds 3 sent 1 failed 1 granted 1 refused 0 held 8\n";
@@ -147,8 +141,8 @@ fn assert_repeated(
 
 #[test]
 fn rounds_are_repeated(rt: HostRuntime) -> Result<(), Fail> {
-    for senders in [0, 1, 4] {
-        assert_repeated(&rt, rt.alloc(), senders)?;
+    for lanes in [0, 1, 4] {
+        assert_repeated(&rt, rt.alloc(), lanes)?;
     }
     Ok(())
 }

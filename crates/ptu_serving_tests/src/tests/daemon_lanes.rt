@@ -1,6 +1,8 @@
 ghost use Rattle.std.specs.Prelude.{◌≡◌, None};
+ghost use Rattle.ptu_config.specs.Limits.{IsGmInRange};
 
 use super::staged::{Given, OnceHost, StagedPort, arriving, assert_said};
+use super::values::{capacity_of, senders_of};
 use super::waiting::{SYNC, request};
 use ptu_config::GmSettings;
 use ptu_config::samples::GM_SETTINGS;
@@ -14,12 +16,16 @@ use std::sync::atomic::{AtomicU64, Ordering};
 use std::test::Fail;
 use std::thread::Threads;
 
-const SETTINGS: GmSettings = GmSettings {
-    rounds: 2,
-    capacity: 32,
-    senders: 2,
-    ..GM_SETTINGS
-};
+fn settings(rt: &impl Abort) -> GmSettings
+    ensures { IsGmInRange result }
+{
+    GmSettings {
+        rounds: 2,
+        capacity: capacity_of(rt, 32),
+        senders: senders_of(rt, 2),
+        ..GM_SETTINGS
+    }
+}
 
 // The limit of looks at a count.
 const LOOKS: u64 = 1_000_000_000;
@@ -171,7 +177,7 @@ fn assert_serves(
     line: &str,
 ) -> Result<(), Fail> {
     let mut host = host(alloc, seen)?;
-    assert_said(rt, alloc, &SETTINGS, &mut host, line);
+    assert_said(rt, alloc, &settings(rt), &mut host, line);
     drop(host);
     assert!(rt; seen.late.load(Ordering::SeqCst) == 0);
     Ok(())

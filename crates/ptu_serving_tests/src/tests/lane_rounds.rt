@@ -26,6 +26,7 @@ ghost use Rattle.std.specs.Prelude.{◌≤◌};
 ghost use Rattle.ptu_config.specs.Limits.{IsGmInRange};
 
 use super::staged::{Given, OnceHost, StagedPort, arriving, assert_said, still};
+use super::values::{capacity_of, senders_of};
 use ptu_config::GmSettings;
 use ptu_config::samples::GM_SETTINGS;
 use ptu_outside::{Channel, Clock, MemClock, Opened};
@@ -36,12 +37,17 @@ use std::sync::Wait;
 use std::test::Fail;
 use std::thread::Threads;
 
-const SETTINGS: GmSettings = GmSettings {
-    rounds: 3,
-    capacity: 65,
-    senders: 1,
-    ..GM_SETTINGS
-};
+// Three rounds of this capacity, by so many lanes that turn tables.
+fn three_rounds(rt: &impl Abort, sixteenths: u64, senders: u8) -> GmSettings
+    ensures { IsGmInRange result }
+{
+    GmSettings {
+        rounds: 3,
+        capacity: capacity_of(rt, sixteenths),
+        senders: senders_of(rt, senders.into()),
+        ..GM_SETTINGS
+    }
+}
 
 // A client: its address, and its sourcePortIdentity in digits.
 type Peer = (u32, &'static str);
@@ -366,27 +372,20 @@ fn set(alloc: Global, senders: u8, case: Case, host: &mut OnceHost<StagedPort>) 
     set_clocks(alloc, senders, change, opened)
 }
 
-fn settings(senders: u8, change: Change) -> GmSettings
-    requires { senders ≤ 4 }
+fn settings(rt: &impl Abort, senders: u8, change: Change) -> GmSettings
     ensures { IsGmInRange result }
 {
     match change {
-        Change::Never => GmSettings {
-            senders,
-            ..SETTINGS
-        },
+        Change::Never => three_rounds(rt, 65, senders),
         Change::First => GmSettings {
-            senders,
-            capacity: 1,
             change_round: 1,
-            new_capacity: Some(65),
-            ..SETTINGS
+            new_capacity: Some(capacity_of(rt, 65)),
+            ..three_rounds(rt, 1, senders)
         },
         Change::Third => GmSettings {
-            senders,
             change_round: 3,
-            new_capacity: Some(20),
-            ..SETTINGS
+            new_capacity: Some(capacity_of(rt, 20)),
+            ..three_rounds(rt, 65, senders)
         },
     }
 }
@@ -540,14 +539,14 @@ fn assert_serves(
     case: Case,
     host: &mut OnceHost<StagedPort>,
 ) -> Result<(), Fail>
-    requires { (1 ≤ senders) × (senders ≤ 4) }
+    requires { 1 ≤ senders }
 {
     set(alloc, senders, case, host)?;
     let (change, _, sent, failed, held) = case;
     let line = format!(in alloc;
         "rounds 3 sent {sent} failed {failed} granted 7 refused 1 held {held}\n"
     )?;
-    let settings = settings(senders, change);
+    let settings = settings(rt, senders, change);
     assert_said(rt, alloc, &settings, host, line.as_str());
     let back = host.back.as_mut();
     assert_back(rt, alloc, back.expect(rt, "the ports are given back"), case)
@@ -559,7 +558,7 @@ fn assert_case(
     senders: u8,
     case: Case,
 ) -> Result<(), Fail>
-    requires { (1 ≤ senders) × (senders ≤ 4) }
+    requires { 1 ≤ senders }
 {
     let mut host = OnceHost::new(still(alloc));
     let served = assert_serves(rt, alloc, senders, case, &mut host);
@@ -635,13 +634,16 @@ const SELDOM: &str = "00040006b0040000012c";
 const OFTEN: &str = "0004000600f90000012c";
 
 // In round 2 the capacity is that of one client.
-const SHEDDING: GmSettings = GmSettings {
-    rounds: 2,
-    capacity: 65536,
-    change_round: 2,
-    new_capacity: Some(1),
-    ..SETTINGS
-};
+fn shedding(rt: &impl Abort) -> GmSettings
+    ensures { IsGmInRange result }
+{
+    GmSettings {
+        rounds: 2,
+        change_round: 2,
+        new_capacity: Some(capacity_of(rt, 1)),
+        ..three_rounds(rt, 65536, 1)
+    }
+}
 
 fn assert_sheds(
     rt: &(impl Abort + Threads + Wait + Sync),
@@ -649,7 +651,7 @@ fn assert_sheds(
     host: &mut OnceHost<StagedPort>,
 ) -> Result<(), Fail> {
     let line = "rounds 2 sent 81 failed 0 granted 41 refused 0 held 1\n";
-    assert_said(rt, alloc, &SHEDDING, host, line);
+    assert_said(rt, alloc, &shedding(rt), host, line);
     let back = host.back.as_ref();
     let back = back.expect(rt, "the ports are given back");
     assert_cancels(rt, alloc, &back.p4)
@@ -681,26 +683,25 @@ fn assert_fills(
     Ok(())
 }
 
-// In 65536 there is room for 32 of them, and in 67584 for all.
-const WIDE: GmSettings = GmSettings {
-    rounds: 1,
-    capacity: 65536,
-    ..SETTINGS
-};
+// One round of this capacity.
+fn one_round(rt: &impl Abort, sixteenths: u64) -> GmSettings
+    ensures { IsGmInRange result }
+{
+    GmSettings {
+        rounds: 1,
+        ..three_rounds(rt, sixteenths, 1)
+    }
+}
 
-const WIDER: GmSettings = GmSettings {
-    capacity: 67584,
-    ..WIDE
-};
-
-// Refuses an opening capacity that is cut to 65535, or to 16 bits.
+// In 65536 there is room for 32 of them, and in 67584 for all. Refuses an opening capacity that is
+// cut to 65535, or to 16 bits.
 #[test]
 fn a_wide_capacity_is_filled(rt: HostRuntime) -> Result<(), Fail> {
     let alloc = rt.alloc();
     let line = "rounds 1 sent 33 failed 0 granted 32 refused 1 held 65536\n";
-    assert_fills(&rt, alloc, &WIDE, line)?;
+    assert_fills(&rt, alloc, &one_round(&rt, 65536), line)?;
     let line = "rounds 1 sent 33 failed 0 granted 33 refused 0 held 67584\n";
-    assert_fills(&rt, alloc, &WIDER, line)
+    assert_fills(&rt, alloc, &one_round(&rt, 67584), line)
 }
 
 // There is room for two grants at the least rate. One client has them, of Announces and of
@@ -725,19 +726,13 @@ const CANCELLED: [Note; 7] = [
     (TWO, 1, "0005000800040000012c0001"),
 ];
 
-const NARROW: GmSettings = GmSettings {
-    rounds: 1,
-    capacity: 2,
-    ..SETTINGS
-};
-
 fn assert_cancelled(
     rt: &(impl Abort + Threads + Wait + Sync),
     alloc: Global,
     host: &mut OnceHost<StagedPort>,
 ) -> Result<(), Fail> {
     let line = "rounds 1 sent 7 failed 0 granted 4 refused 2 held 2\n";
-    assert_said(rt, alloc, &NARROW, host, line);
+    assert_said(rt, alloc, &one_round(rt, 2), host, line);
     let mut expected = Vec::new(alloc);
     add_notes(alloc, &mut expected, &CANCELLED)?;
     let back = host.back.as_ref();

@@ -7,10 +7,10 @@
 //! - A thread more is made than may be. (The clocks that lanes read.)
 //! - A lane takes a datagram or a moment before all threads are made. (The ports and the clocks.)
 
-ghost use Rattle.std.specs.Prelude.{◌≤◌};
 ghost use Rattle.ptu_config.specs.Limits.{IsGmInRange};
 
 use super::staged::{Given, OnceHost, StagedPort, arriving, still};
+use super::values::{capacity_of, senders_of};
 use super::waiting::{SYNC, request};
 use ptu_config::GmSettings;
 use ptu_config::samples::GM_SETTINGS;
@@ -26,16 +26,15 @@ use std::thread::Threads;
 type Ports = Opened<StagedPort, MemClock>;
 
 // Three rounds, with a change of the capacity before the last.
-fn settings(senders: u8) -> GmSettings
-    requires { senders ≤ 4 }
+fn settings(rt: &impl Abort, senders: u8) -> GmSettings
     ensures { IsGmInRange result }
 {
     GmSettings {
         rounds: 3,
-        capacity: 32,
-        senders,
+        capacity: capacity_of(rt, 32),
+        senders: senders_of(rt, senders.into()),
         change_round: 3,
-        new_capacity: Some(16),
+        new_capacity: Some(capacity_of(rt, 16)),
         ..GM_SETTINGS
     }
 }
@@ -81,12 +80,10 @@ fn serve_with(
     alloc: Global,
     senders: u8,
     threads: usize,
-) -> Result<(Ports, MemSink), Fail>
-    requires { senders ≤ 4 }
-{
+) -> Result<(Ports, MemSink), Fail> {
     let mut host = host(alloc)?;
     let mut sink = MemSink::new(alloc, Vec::new(alloc));
-    let settings = settings(senders);
+    let settings = settings(rt, senders);
     let served = serve_within(rt, alloc, threads, &settings, &mut host, &mut sink);
     assert!(rt; served.is_ok(), "{senders} lanes and {threads} threads");
     let back = host.back.take();
@@ -128,9 +125,7 @@ fn assert_refused(
     alloc: Global,
     senders: u8,
     threads: usize,
-) -> Result<(), Fail>
-    requires { senders ≤ 4 }
-{
+) -> Result<(), Fail> {
     let (mut alone, line) = serve_with(rt, alloc, 0, 0)?;
     let (mut refused, other_line) = serve_with(rt, alloc, senders, threads)?;
     assert!(rt;
@@ -146,9 +141,7 @@ fn assert_made(
     rt: &(impl Abort + Threads + Wait + Sync),
     alloc: Global,
     senders: u8,
-) -> Result<(), Fail>
-    requires { senders ≤ 4 }
-{
+) -> Result<(), Fail> {
     let (mut back, _) = serve_with(rt, alloc, senders, 1 + usize::from(senders))?;
     assert_eq!(rt; back.c1.now().nanos(), 1_000_000_000);
     Ok(())

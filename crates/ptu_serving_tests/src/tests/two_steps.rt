@@ -1,5 +1,6 @@
-ghost use Rattle.std.specs.Prelude.{◌≤◌};
+ghost use Rattle.ptu_config.specs.Limits.{IsGmInRange};
 
+use super::values::{capacity_of, senders_of};
 use super::waiting::{CLIENT, SYNC, asking, grant};
 use ptu_config::GmSettings;
 use ptu_config::samples::GM_SETTINGS;
@@ -13,12 +14,18 @@ use std::sync::Wait;
 use std::test::Fail;
 use std::thread::Threads;
 
-const SETTINGS: GmSettings = GmSettings {
-    rounds: 2,
-    capacity: 16,
-    two_step: true,
-    ..GM_SETTINGS
-};
+// Two rounds in two steps, by so many lanes that turn tables.
+fn settings(rt: &impl Abort, senders: u8) -> GmSettings
+    ensures { IsGmInRange result }
+{
+    GmSettings {
+        rounds: 2,
+        capacity: capacity_of(rt, 16),
+        senders: senders_of(rt, senders.into()),
+        two_step: true,
+        ..GM_SETTINGS
+    }
+}
 
 // The Sync that is due after one second, as it is sent, and its Follow_Up.
 const SENT_SYNC: &str = "0012002c040006000000000000000000000000000a0000000000000100010000\
@@ -82,13 +89,8 @@ fn served(
     senders: u8,
     failing_sends: &[u64],
     line: &str,
-) -> Result<MemHost, Fail>
-    requires { senders ≤ 4 }
-{
-    let settings = GmSettings {
-        senders,
-        ..SETTINGS
-    };
+) -> Result<MemHost, Fail> {
+    let settings = settings(rt, senders);
     let mut host = host(alloc, senders, failing_sends)?;
     let mut sink = MemSink::new(alloc, Vec::new(alloc));
     assert!(rt; serve_in_two_steps(rt, alloc, &settings, &mut host, &mut sink).is_ok());
@@ -122,9 +124,7 @@ fn assert_served(
     failing_sends: &[u64],
     line: &str,
     sent: &[(Channel, &str)],
-) -> Result<(), Fail>
-    requires { senders ≤ 4 }
-{
+) -> Result<(), Fail> {
     let host = served(rt, alloc, senders, failing_sends, line)?;
     let asserted = assert_sent(rt, alloc, &host, sent);
     drop(host);
@@ -154,7 +154,7 @@ fn the_flag_of_a_port_that_failed_is_given_back(rt: HostRuntime) -> Result<(), F
         let mut host = host(alloc, 0, &[failing_sends])?;
         let mut two = TwoHost::new(&mut host);
         let mut sink = MemSink::new(alloc, Vec::new(alloc));
-        serve(&rt, alloc, &SETTINGS, &mut two, &mut sink)?;
+        serve(&rt, alloc, &settings(&rt, 0), &mut two, &mut sink)?;
         let wanted = Flags {
             p2,
             ..Flags::default()

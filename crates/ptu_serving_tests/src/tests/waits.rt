@@ -1,10 +1,11 @@
 //! How a daemon waits.
 
-ghost use Rattle.std.specs.Prelude.{◌≡◌, ◌≤◌, None};
+ghost use Rattle.std.specs.Prelude.{◌≡◌, None};
 ghost use Rattle.ptu_outside.specs.Faults.{HasNotFallen, one_more};
 ghost use Rattle.ptu_config.specs.Limits.{IsGmInRange};
 
 use super::staged::{OnceHost, assert_said};
+use super::values::{capacity_of, senders_of};
 use super::waiting::{SYNC, asking};
 use ptu_config::GmSettings;
 use ptu_config::samples::GM_SETTINGS;
@@ -152,7 +153,11 @@ fn waits_of(
     requires { IsGmInRange settings.now }
 {
     let waited = AtomicU64::new(0);
-    let opened = noting(opened_with(alloc, general), &waited, settings.senders > 0);
+    let opened = noting(
+        opened_with(alloc, general),
+        &waited,
+        settings.senders.get() > 0,
+    );
     let mut host = OnceHost::new(opened);
     assert_said(rt, alloc, settings, &mut host, line);
     let back = host.back.take().ok_or("ports are given back")?;
@@ -170,20 +175,18 @@ fn port_with_ask(alloc: Global) -> Result<MemPort, Fail> {
     Ok(MemPort::new(alloc, waiting, Vec::new(alloc), Vec::new(alloc)))
 }
 
-// So many senders wait at the end of each of three rounds.
+// So many lanes wait at the end of each of three rounds.
 fn assert_waits(
     rt: &(impl Abort + Threads + Wait + Sync),
     alloc: Global,
-    senders: u8,
-) -> Result<(), Fail>
-    requires { senders ≤ 4 }
-{
+    lanes: u64,
+) -> Result<(), Fail> {
     let idle = "rounds 3 sent 0 failed 0 granted 0 refused 0 held 0\n";
     let granted = "rounds 3 sent 1 failed 0 granted 1 refused 0 held 16\n";
     let settings = GmSettings {
         rounds: 3,
-        capacity: 16,
-        senders,
+        capacity: capacity_of(rt, 16),
+        senders: senders_of(rt, lanes),
         ..GM_SETTINGS
     };
     let none = waits_of(rt, alloc, &settings, idle_port(alloc), idle)?;
@@ -205,8 +208,8 @@ fn a_round_ends_with_a_wait_for_what_is_due(rt: HostRuntime) -> Result<(), Fail>
 // round, so that the first message of a grant of this round is late.
 #[test]
 fn a_round_of_lanes_ends_with_a_wait_for_what_is_due(rt: HostRuntime) -> Result<(), Fail> {
-    for senders in 1..5 {
-        assert_waits(&rt, rt.alloc(), senders)?;
+    for lanes in 1..5 {
+        assert_waits(&rt, rt.alloc(), lanes)?;
     }
     Ok(())
 }
@@ -219,10 +222,10 @@ fn lanes_do_not_wait_at_the_change_of_capacity(rt: HostRuntime) -> Result<(), Fa
     let line = "rounds 3 sent 2 failed 0 granted 1 refused 0 held 0\n";
     let settings = GmSettings {
         rounds: 3,
-        capacity: 16,
-        senders: 2,
+        capacity: capacity_of(&rt, 16),
+        senders: senders_of(&rt, 2),
         change_round: 2,
-        new_capacity: Some(8),
+        new_capacity: Some(capacity_of(&rt, 8)),
         ..GM_SETTINGS
     };
     let changed = waits_of(&rt, alloc, &settings, port_with_ask(alloc)?, line)?;

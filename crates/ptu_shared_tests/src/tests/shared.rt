@@ -1,5 +1,4 @@
 ghost use Rattle.std.specs.Prelude.{◌≡◌, ◌≤◌, ◌<◌, ℕ};
-ghost use Rattle.ptu_units.specs.Limits.{IsCapacity};
 ghost use Rattle.ptu_shared.specs.{Blanks.{IsBlankOf}, Opening.{idle_port, sample_config}};
 
 use ptu_admit::samples::{Told, numbers_of};
@@ -9,38 +8,15 @@ use ptu_messages::Ask;
 use ptu_outside::{MemPort, Port, samples};
 use ptu_shard::Answered;
 use ptu_shard::samples::{CONFIG, DELAY_REQ, SECOND, THREE, TWO};
-use ptu_shared::{CloseFault, Rates, Seat, Shared};
-use ptu_units::{Kind, Moment};
+use ptu_shared::{Blanks, CloseFault, Rates, Seat, Shared, TablePorts};
+use ptu_units::{Capacity, Kind, Moment};
 use std::alloc::Global;
 use std::marker::Brand;
 use std::process::Abort;
 use std::sync::Wait;
-use std::sync::ledger::{Blank, Ledger};
+use std::sync::ledger::Ledger;
 use std::test::Fail;
 use std::thread::{self, Threads};
-
-// What becomes the ledgers.
-#[derive(Drop)]
-pub(crate) struct Blanks {
-    pub rates: Blank,
-    pub granted: Blank,
-    pub refused: Blank,
-}
-
-impl Blanks {
-    // Those of so many seats.
-    pub fn new(seats: usize) -> Blanks
-        ensures { (result.rates.parts ≡ 4) × (result.granted.parts ≡ seats)
-            × (result.refused.parts ≡ seats) }
-    {
-        let seats = seats as u64;
-        Blanks {
-            rates: Blank::new(4),
-            granted: Blank::new(seats),
-            refused: Blank::new(seats),
-        }
-    }
-}
 
 pub(crate) const ANNOUNCE: u8 = 11;
 
@@ -57,6 +33,13 @@ const SHORT: Told = Told::Short(0, 8, 1, 8);
 
 pub(crate) fn moment(rt: &impl Abort, nanos: u64) -> Moment {
     Moment::of(nanos).expect(rt, "a moment is below 2^62")
+}
+
+// A capacity of so many sixteenths of a message per second.
+pub(crate) fn capacity(rt: &impl Abort, sixteenths: u64) -> Capacity
+    ensures { result ≡ sixteenths }
+{
+    Capacity::of(sixteenths).expect(rt, "a capacity is within its limits")
 }
 
 // The client asks for the kind of this code at this logarithm, for 300 seconds.
@@ -154,7 +137,7 @@ impl<L: Rates, G: Ledger, R: Ledger> Site<L, G, R> {
         requires ledger { L.parts ≡ 4 }
         requires most { 8 ≤ L.most }
     {
-        let resized = self.shared.resize(rt, at, 8);
+        let resized = self.shared.resize(rt, at, Capacity::SAMPLE);
         let resized = resized.expect(rt, "memory is found");
         assert!(rt; resized.at == at);
         let shed = resized.shed.list();
@@ -431,7 +414,7 @@ fn play<L, G, R, W>(
     rt: &W,
     alloc: Global,
     blanks: Blanks,
-    capacity: u64,
+    capacity: Capacity,
     seats: usize,
     scene: Scene,
 ) -> Result<(), Fail>
@@ -443,23 +426,16 @@ where
     requires rates { IsBlankOf L.name L.parts 4 blanks.rates }
     requires granted { IsBlankOf G.name G.parts L.seats blanks.granted }
     requires refused { IsBlankOf R.name R.parts L.seats blanks.refused }
-    requires capacity { (IsCapacity capacity) × (8 ≤ capacity) }
     requires opening { capacity ≡ L.opening }
-    requires most { capacity ≤ L.most }
+    requires most { (capacity ≤ L.most) × (8 ≤ L.most) }
     requires config { L.config ≡ sample_config }
     requires seats { (1 ≤ seats) × (seats ≤ 64) × (seats ≡ L.seats) }
     requires ports { (i : ℕ) → L.opened i ≡ idle_port }
 {
     let (p0, p1) = (samples::idle_port(alloc), samples::idle_port(alloc));
     let (p2, p3) = (samples::idle_port(alloc), samples::idle_port(alloc));
-    let Blanks {
-        rates,
-        granted,
-        refused,
-    } = blanks;
-    let (shared, seats) = Shared::<MemPort, L, G, R>::new(
-        alloc, rates, granted, refused, capacity, seats, p0, p1, p2, p3,
-    )?;
+    let ports = TablePorts { p0, p1, p2, p3 };
+    let (shared, seats) = Shared::<MemPort, L, G, R>::new(alloc, blanks, capacity, seats, ports)?;
     let site = Site { shared, seats };
     match scene {
         Scene::Course(course) => site.run(rt, &course),
@@ -472,13 +448,14 @@ where
 fn run<W: Wait + Abort + Threads + Sync>(
     rt: &W,
     alloc: Global,
-    capacity: u64,
+    sixteenths: u64,
     seats: usize,
     scene: Scene,
 ) -> Result<(), Fail>
-    requires capacity { (IsCapacity capacity) × (8 ≤ capacity) }
+    requires capacity { 8 ≤ sixteenths }
     requires seats { (1 ≤ seats) × (seats ≤ 64) }
 {
-    let blanks = Blanks::new(seats);
+    let blanks = Blanks::of_seats(seats);
+    let capacity = capacity(rt, sixteenths);
     play::<Brand, Brand, Brand, W>(rt, alloc, blanks, capacity, seats, scene)
 }

@@ -1,12 +1,11 @@
 ghost use Rattle.std.specs.Prelude.{◌≡◌, ◌≤◌, ℕ, None};
-ghost use Rattle.ptu_units.specs.Limits.{IsCapacity};
 ghost use Rattle.ptu_shared.specs.{Blanks.{IsBlankOf}, Opening.{sample_config, untold_port}};
 
-use super::shared::{ANNOUNCE, Blanks, GRANTED, GRANTED_LATER, SYNC, ask, moment, turn};
+use super::shared::{ANNOUNCE, GRANTED, GRANTED_LATER, SYNC, ask, capacity, moment, turn};
 use ptu_outside::{Channel, Failed, Port};
 use ptu_shard::samples::{ONE, SECOND, THREE, TWO, ZERO};
-use ptu_shared::{Rates, Seat, Shared};
-use ptu_units::{Kind, Moment};
+use ptu_shared::{Blanks, Rates, Seat, Shared, TablePorts};
+use ptu_units::{Capacity, Kind, Moment};
 use std::alloc::Global;
 use std::marker::Brand;
 use std::process::Abort;
@@ -175,7 +174,8 @@ impl<L: Rates + Sync, G: Ledger + Sync, R: Ledger + Sync> Held<'_, '_, L, G, R> 
                 let _ = ask(rt, self.shared, &mut seat, SECOND, &THREE, (ANNOUNCE, -2));
             }
             Call::Resize => {
-                let _ = self.shared.resize(rt, moment(rt, SECOND), 64);
+                let same = capacity(rt, 64);
+                let _ = self.shared.resize(rt, moment(rt, SECOND), same);
             }
         }
     }
@@ -268,7 +268,7 @@ fn play_held<L, G, R, W>(
     rt: &W,
     alloc: Global,
     blanks: Blanks,
-    capacity: u64,
+    capacity: Capacity,
     gate: &Gate,
     call: Option<Call>,
 ) -> Result<(), Fail>
@@ -280,9 +280,8 @@ where
     requires rates { IsBlankOf L.name L.parts 4 blanks.rates }
     requires granted { IsBlankOf G.name G.parts L.seats blanks.granted }
     requires refused { IsBlankOf R.name R.parts L.seats blanks.refused }
-    requires capacity { IsCapacity capacity }
     requires opening { capacity ≡ L.opening }
-    requires most { (capacity ≤ L.most) × (64 ≤ capacity) }
+    requires most { (capacity ≤ L.most) × (64 ≤ L.most) }
     requires config { L.config ≡ sample_config }
     requires seats { L.seats ≡ 2 }
     requires ports { (i : ℕ) → L.opened i ≡ untold_port }
@@ -291,14 +290,8 @@ where
     let p1 = HeldPort { gate: None };
     let p2 = HeldPort { gate: None };
     let p3 = HeldPort { gate: None };
-    let Blanks {
-        rates,
-        granted,
-        refused,
-    } = blanks;
-    let (shared, seats) = Shared::<HeldPort<'_>, L, G, R>::new(
-        alloc, rates, granted, refused, capacity, 2, p0, p1, p2, p3,
-    )?;
+    let ports = TablePorts { p0, p1, p2, p3 };
+    let (shared, seats) = Shared::<HeldPort<'_>, L, G, R>::new(alloc, blanks, capacity, 2, ports)?;
     let held = Held {
         shared: &shared,
         gate,
@@ -312,9 +305,10 @@ fn hold_beside<W: Wait + Abort + Threads + Sync>(
     alloc: Global,
     call: Option<Call>,
 ) -> Result<(), Fail> {
-    let blanks = Blanks::new(2);
+    let blanks = Blanks::of_seats(2);
     let gate = closed_gate();
-    play_held::<Brand, Brand, Brand, W>(rt, alloc, blanks, 64, &gate, call)
+    let capacity = capacity(rt, 64);
+    play_held::<Brand, Brand, Brand, W>(rt, alloc, blanks, capacity, &gate, call)
 }
 
 #[test]

@@ -1,13 +1,12 @@
 ghost use Rattle.std.specs.Prelude.{◌≡◌, ◌≤◌, ℕ, None};
-ghost use Rattle.ptu_units.specs.Limits.{IsCapacity};
 ghost use Rattle.ptu_shared.specs.{Blanks.{IsBlankOf}, Opening.{untold_port}};
 
-use super::shared::{ANNOUNCE, Blanks, GRANTED, SYNC, ask, moment};
+use super::shared::{ANNOUNCE, GRANTED, SYNC, ask, capacity, moment};
 use super::shared_held::{Gate, HeldPort, closed_gate};
 use ptu_history::Client;
 use ptu_outside::{Channel, Failed, Port};
 use ptu_shard::samples::{ONE, SECOND, THREE, TWO, ZERO};
-use ptu_shared::{Rates, Seat, Shared};
+use ptu_shared::{Blanks, Rates, Seat, Shared, TablePorts};
 use ptu_units::Moment;
 use std::alloc::Global;
 use std::marker::Brand;
@@ -82,13 +81,18 @@ where
     requires seats { L.seats ≡ 1 }
     requires ports { (i : ℕ) → L.opened i ≡ untold_port }
 {
-    let Blanks {
-        rates,
-        granted,
-        refused,
-    } = blanks;
+    let ports = TablePorts {
+        p0: UNASKED,
+        p1: UNASKED,
+        p2: UNASKED,
+        p3: UNASKED,
+    };
     let (shared, mut seats) = Shared::<PatientPort, L, G, R>::new(
-        alloc, rates, granted, refused, 64, 1, UNASKED, UNASKED, UNASKED, UNASKED,
+        alloc,
+        blanks,
+        capacity(rt, 64),
+        1,
+        ports,
     )?;
     let mut seat = seats.pop().expect(rt, "there is one seat");
     assert_eq!(rt; end_of_wait(rt, &shared, LATEST), LATEST);
@@ -100,7 +104,7 @@ where
 }
 
 fn wait_for<W: Wait + Abort>(rt: &W, alloc: Global, client: &Client) -> Result<(), Fail> {
-    wait_for_sync::<Brand, Brand, Brand, W>(rt, alloc, Blanks::new(1), client)
+    wait_for_sync::<Brand, Brand, Brand, W>(rt, alloc, Blanks::of_seats(1), client)
 }
 
 // It refuses a wait that goes on where a table has a message to send, whichever it is, one that
@@ -145,23 +149,19 @@ where
     requires seats { L.seats ≡ 1 }
     requires ports { (i : ℕ) → L.opened i ≡ untold_port }
 {
-    let Blanks {
-        rates,
-        granted,
-        refused,
-    } = blanks;
     let free = || HeldPort::at(None);
+    let ports = TablePorts {
+        p0: free(),
+        p1: free(),
+        p2: free(),
+        p3: free(),
+    };
     let (shared, mut seats) = Shared::<HeldPort<'_>, L, G, R>::new(
         alloc,
-        rates,
-        granted,
-        refused,
-        64,
+        blanks,
+        capacity(rt, 64),
         1,
-        free(),
-        free(),
-        free(),
-        free(),
+        ports,
     )?;
     let seat = seats.pop().expect(rt, "there is one seat");
     let shared = &shared;
@@ -179,7 +179,7 @@ where
 
 fn hold_a_wait<W: Wait + Abort + Threads + Sync>(rt: &W, alloc: Global) -> Result<(), Fail> {
     let gate = closed_gate();
-    wait_and_ask::<Brand, Brand, Brand, W>(rt, alloc, Blanks::new(1), &gate)
+    wait_and_ask::<Brand, Brand, Brand, W>(rt, alloc, Blanks::of_seats(1), &gate)
 }
 
 // It refuses a wait that holds the lock of a table, whichever it is, or the book's.

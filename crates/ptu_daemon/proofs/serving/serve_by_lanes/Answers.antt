@@ -22,7 +22,7 @@ returns-in-Served-clause-serves g c =
     let ended : ServesByLanes g.P.Port g.C.Clock c.args.settings.now c.config-config.result c.args.opened c.in-Served.back (numbers_of c.in-Served.totals) =
     rw c.in-Served.is at c.in_ok-back.ensures in
     inl (of_equals g.P.Port g.C.Clock c.args.settings.now c.config-config.result (config_of c.args.settings.now) c.args.opened c.in-Served.back
-    (numbers_of c.in-Served.totals) (numbers_in (said_by c.closing_of.result)) c.config-config.ensures.is c.closing_of.ensures.numbers ended)
+    (numbers_of c.in-Served.totals) (numbers_in (said_by c.closing_of.result)) c.config-config.ensures c.closing_of.ensures.numbers ended)
 
 pub returns-in-Refused-clause-serves : goal.returns-in-Refused-clause-serves
 returns-in-Refused-clause-serves g c =

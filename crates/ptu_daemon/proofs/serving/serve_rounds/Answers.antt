@@ -1,5 +1,4 @@
-use Rattle.std.proofs.Common.{◌∙◌, refl, subst}
-use Rattle.ptu_profile.specs.Grandmaster.{IsWithinLimits}
+use Rattle.std.proofs.Common.{◌∙◌, refl}
 use Rattle.ptu_config.specs.Rounds.{all_rounds}
 use Rattle.ptu_daemon.specs.Served.{said_by}
 use Rattle.ptu_daemon.proofs.serving.serve_rounds.Goals as goal
@@ -19,6 +18,6 @@ returns-clause-serves g c =
       refused = c.close-closed.result.0.refused;
       held = c.close-closed.result.0.total;
     }))
-    (subst (λ config. IsWithinLimits config) c.config.ensures.is c.config.ensures.limits) c.requires.capacity (made.config ∙ c.config.ensures.is) made.ports.0 made.ports.1 made.ports.2 made.ports.3 made.ports.4 made.stands c.in_ok-tally.ensures.did
+    (record { domain = c.requires.domain; max_duration = c.requires.max_duration; epoch = c.requires.epoch }) c.requires.capacity (made.config ∙ c.config.ensures) made.ports.0 made.ports.1 made.ports.2 made.ports.3 made.ports.4 made.stands c.in_ok-tally.ensures.did
     ended.ports.0 ended.ports.1 ended.ports.2 ended.ports.3 ended.ports.4 refl refl refl refl refl refl refl refl refl
     (λ opening history stood. let r = ended.rates opening history stood in (r.1, r.2, r.3))

@@ -6,7 +6,7 @@ use Rattle.ptu_lanes.proofs.Moments.{passed-append, passed_none}
 use Rattle.ptu_lanes.proofs.signaling.control_round.Goals as goal
 
 pub loop-i-init : goal.loop-i-init
-loop-i-init g c = record { exchanges = []; many = refl; failed = omega arith; moments = passed_none (g.C.Clock.moments c.args.clock.now); served = nothing_yet g.P.Port g.L.Rates.most c.args.config.now c.args.port.now c.args.seat.now }
+loop-i-init g c = record { exchanges = []; many = refl; failed = omega arith; moments = passed_none (g.C.Clock.moments c.args.clock.now); served = nothing_yet g.P.Port g.L.Rates.most c.args.service.now.base.now.config.now c.args.port.now c.args.seat.now }
 
 pub loop-i-preserved : goal.loop-i-preserved
 loop-i-preserved g c =
@@ -19,21 +19,21 @@ loop-i-preserved g c =
       many = length-append inv.exchanges taken.0 ∙ omega (arith, one, inv.many);
       failed = omega (arith, inv.failed, c.in_ok-one.ensures.failed);
       moments = passed-append c.loop-i._i 1 _ _ _ inv.moments (rw c.if-not-goes_on.false at c.in_ok-one.ensures.moments);
-      served = served-append g.P.Port g.L.Rates.most c.args.config.now inv.exchanges taken.0 _ _ _ _ _ _ _ _ _ _ _ _ _ _ inv.served (rw none at taken.4);
+      served = served-append g.P.Port g.L.Rates.most c.args.service.now.base.now.config.now inv.exchanges taken.0 _ _ _ _ _ _ _ _ _ _ _ _ _ _ inv.served (rw none at taken.4);
     }
 
 pub returns-after-loop-i-clause-round : goal.returns-after-loop-i-clause-round
 returns-after-loop-i-clause-round g c =
     let inv = c.loop-i.invariant in
     let all : length inv.exchanges ≡ 64 = omega (arith, inv.many, c.loop-i-test.false, c.loop-i.auto._i-end) in
-    round_is g.P.Port g.L.Rates.most c.args.config.now inv.exchanges _ _ _ _ _ _ _ _ inv.served (omega (arith, all)) (inl all)
+    round_is g.P.Port g.L.Rates.most c.args.service.now.base.now.config.now inv.exchanges _ _ _ _ _ _ _ _ inv.served (omega (arith, all)) (inl all)
 
 pub returns-then-not-goes_on-clause-round : goal.returns-then-not-goes_on-clause-round
 returns-then-not-goes_on-clause-round g c =
     let inv = c.loop-i.invariant in
     let taken = c.in_ok-one.ensures.served in
     let none : length taken.0 ≡ 0 = rw c.if-not-goes_on.true at taken.1 in
-    round_over g.P.Port g.L.Rates.most c.args.config.now inv.exchanges taken.0 _ _ _ _ _ _ _ _ _ _ _ _ _ _ inv.served taken.4
+    round_over g.P.Port g.L.Rates.most c.args.service.now.base.now.config.now inv.exchanges taken.0 _ _ _ _ _ _ _ _ _ _ _ _ _ _ inv.served taken.4
     (omega (arith, none, inv.many, c.loop-i-test.true)) (c.in_ok-one.ensures.end c.if-not-goes_on.true)
 
 pub returns-then-not-goes_on-clause-just : goal.returns-then-not-goes_on-clause-just
@@ -51,7 +51,7 @@ returns-then-not-goes_on-clause-quiet g c none =
 pub returns-after-loop-i-clause-exchanged : goal.returns-after-loop-i-clause-exchanged
 returns-after-loop-i-clause-exchanged g c =
     let inv = c.loop-i.invariant in
-    exchanged_is g.P.Port g.C.Clock g.L.Rates.most c.args.config.now inv.exchanges c.loop-i._i _ _ _ _ _ _ _ _ _ _ inv.served (omega (arith, inv.many))
+    exchanged_is g.P.Port g.C.Clock g.L.Rates.most c.args.service.now.base.now.config.now inv.exchanges c.loop-i._i _ _ _ _ _ _ _ _ _ _ inv.served (omega (arith, inv.many))
     (omega (arith, inv.many, c.loop-i.auto._i-end)) (omega arith) inv.moments
 
 pub returns-then-not-goes_on-clause-exchanged : goal.returns-then-not-goes_on-clause-exchanged
@@ -60,8 +60,8 @@ returns-then-not-goes_on-clause-exchanged g c =
     let taken = c.in_ok-one.ensures.served in
     let none : length taken.0 ≡ 0 = rw c.if-not-goes_on.true at taken.1 in
     let many : length (inv.exchanges ++ taken.0) ≡ c.loop-i._i = length-append inv.exchanges taken.0 ∙ omega (arith, none, inv.many) in
-    exchanged_is g.P.Port g.C.Clock g.L.Rates.most c.args.config.now (inv.exchanges ++ taken.0) (c.loop-i._i + 0) _ _ _ _ _ _ _ _ _ _
-    (served-append g.P.Port g.L.Rates.most c.args.config.now inv.exchanges taken.0 _ _ _ _ _ _ _ _ _ _ _ _ _ _ inv.served taken.4)
+    exchanged_is g.P.Port g.C.Clock g.L.Rates.most c.args.service.now.base.now.config.now (inv.exchanges ++ taken.0) (c.loop-i._i + 0) _ _ _ _ _ _ _ _ _ _
+    (served-append g.P.Port g.L.Rates.most c.args.service.now.base.now.config.now inv.exchanges taken.0 _ _ _ _ _ _ _ _ _ _ _ _ _ _ inv.served taken.4)
     (omega (arith, many)) (omega (arith, many, c.loop-i-test.true)) (omega (arith, taken.3, c.in_ok-one.ensures.failed))
     (passed-append c.loop-i._i 0 _ _ _ inv.moments (rw c.if-not-goes_on.true at c.in_ok-one.ensures.moments))
 
@@ -69,5 +69,5 @@ pub returns-in_err-one-clause-broke_off : goal.returns-in_err-one-clause-broke_o
 returns-in_err-one-clause-broke_off g c =
     let inv = c.loop-i.invariant in
     on_err c.from_residual.result _
-    (broke_off g.P.Port g.C.Clock g.L.Rates.most c.args.config.now inv.exchanges c.loop-i._i _ _ _ _ _ _ _ _ _ _ _ _ _ inv.served (omega (arith, inv.many))
+    (broke_off g.P.Port g.C.Clock g.L.Rates.most c.args.service.now.base.now.config.now inv.exchanges c.loop-i._i _ _ _ _ _ _ _ _ _ _ _ _ _ inv.served (omega (arith, inv.many))
     (omega (arith, c.loop-i-test.true)) inv.moments c.in_err-one.ensures.broke_off)

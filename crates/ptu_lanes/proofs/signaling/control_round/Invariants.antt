@@ -8,5 +8,5 @@ invariant-loop-i g l = record {
   many : length exchanges ≡ l._i;
   failed : l.control.failed ≤ l._i;
   moments : PassedBy l._i (g.C.Clock.moments l.initial.clock) (g.C.Clock.moments l.clock);
-  served : HasServed g.P.Port g.L.Rates.most l.config exchanges l.initial.port l.port l.initial.seat l.seat l.control.asks l.control.sent l.control.failed 0;
+  served : HasServed g.P.Port g.L.Rates.most l.service.base.now.config.now exchanges l.initial.port l.port l.initial.seat l.seat l.control.asks l.control.sent l.control.failed 0;
 }

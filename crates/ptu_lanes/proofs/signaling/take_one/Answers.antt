@@ -20,7 +20,7 @@ returns-in_ok-answered-in-Ok-Some-clause-served g c =
       refl,
       0,
       refl,
-      served_received g.P.Port g.L.Rates.most c.args.service.now.config.now e _ _ _ _ _ _ _ _
+      served_received g.P.Port g.L.Rates.most c.args.service.now.base.now.config.now e _ _ _ _ _ _ _ _
           (rw c.in-Ok-Some.field-0-is at received.first) (rw c.in-Ok-Some.field-0-is at received.rest) received.sent received.quiet replied.1,
     )
 
@@ -31,7 +31,7 @@ returns-in-Ok-None-clause-served g c =
       refl,
       0,
       refl,
-      served_none g.P.Port g.L.Rates.most c.args.service.now.config.now _ _ 0 c.args.seat.now (rw c.in-Ok-None.field-0-is at received.left) received.sent
+      served_none g.P.Port g.L.Rates.most c.args.service.now.base.now.config.now _ _ 0 c.args.seat.now (rw c.in-Ok-None.field-0-is at received.left) received.sent
           (inl (omega (arith, received.quiet))) (λ once. inl (omega (arith, received.quiet))) (λ none. received.quiet) received.no_fall,
     )
 
@@ -42,7 +42,7 @@ returns-in-Err-clause-served g c =
       refl,
       1,
       refl,
-      served_none g.P.Port g.L.Rates.most c.args.service.now.config.now _ _ 1 c.args.seat.now received.kept received.sent
+      served_none g.P.Port g.L.Rates.most c.args.service.now.base.now.config.now _ _ 1 c.args.seat.now received.kept received.sent
           received.risen (λ once. just_once _ _ (received.once once)) (λ none. absurd (omega (arith, none))) received.no_fall,
     )
 

@@ -15,6 +15,6 @@ returns g c =
     let moved = ok_of changed.result _ _ c.in_ok-met.ensures changed.ensures.moment in
     let early = rw c.requires.most.1 at c.in_ok-lane.ensures in
     if_ok c.take_part_signaling-2.result _ _ (λ new late.
-    signaling_changed g.P.Port g.C.Clock c.args.settings.now c.args.self.now.config.now c.args.capacity (c.from-early.result - 1) _ _ _ _ _ _ _ _ _ _ _ _ _ _ _ _ _ _ _ _ _
+    signaling_changed g.P.Port g.C.Clock c.args.settings.now c.args.self.now.base.now.config.now c.args.capacity (c.from-early.result - 1) _ _ _ _ _ _ _ _ _ _ _ _ _ _ _ _ _ _ _ _ _
     c.requires.change (ap (λ n. n - 1) change) (both ∙ value) c.requires.seat c.requires.tally early sends moved changed.ensures.seat (rw c.requires.most.1 at late))
     c.take_part_signaling-2.ensures
