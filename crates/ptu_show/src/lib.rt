@@ -15,7 +15,6 @@ mod lines;
 mod reading;
 mod waiting;
 
-pub use crate::LabFault;
 pub use decoding::show;
 pub use fault::{JoinFault, LabFault};
 pub use generating::{generate, put, sample_loads, whole_loads};
