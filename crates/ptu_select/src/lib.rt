@@ -4,13 +4,13 @@
 
 mod candidate;
 mod choice;
-pub mod fails_laws;
 pub mod laws;
 mod master;
 mod moments;
 mod selector;
 mod state;
 mod watch;
+pub mod watch_laws;
 
 pub use selector::Selector;
 pub use state::WatchState;

@@ -1,5 +1,5 @@
 use Rattle.ptu_select.proofs.Watching.{unwatched}
-use Rattle.ptu_select.proofs.fails_laws.unwatched.Goals as goal
+use Rattle.ptu_select.proofs.watch_laws.unwatched.Goals as goal
 
 pub returns : goal.returns
 returns c = unwatched
