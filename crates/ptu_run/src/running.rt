@@ -13,24 +13,23 @@ ghost use Rattle.ptu_run.specs.Daemons.{HasRunServe, HasRunSlave};
 ghost use Rattle.ptu_run.specs.Answers.{AreFaultsAnswered, AreWordsAnswered, HasEnded};
 ghost use Rattle.ptu_run.specs.Run.{output_of, statuses, HasAudited, HasLoaded, HasReadAll, HasRun, HasRunUnlessFailed, IsAccepted, IsOfLab, IsStatusOf, IsWholeStatus};
 
+use crate::command::Command;
 use crate::daemons::{run_serve, run_slave};
+use crate::reading::read_words;
 use crate::status::{
     BAD_LINE, BROKEN_PROMISE, OUT_OF_MEMORY, SOURCE_FAULT, USAGE, audit_status, status_of,
 };
-use crate::{Command, read_words};
 use ptu_audit::audit;
 use ptu_lab::{Stock, load, replay, show};
 use ptu_outside::{Host, Sink, Source};
 use ptu_pool_run::pools;
 use ptu_show::join;
-use std::alloc::Global;
 use std::sync::Wait;
 use std::thread::Threads;
 
 // Runs a command.
-fn run_command<W: Threads + Wait + Sync, S: Source, K: Sink, H: Host>(
+fn run_command<W: AllocGlobal + Threads + Wait + Sync, S: Source, K: Sink, H: Host>(
     rt: &W,
-    alloc: Global,
     command: Command,
     source: &mut S,
     sink: &mut K,
@@ -69,6 +68,7 @@ fn run_command<W: Threads + Wait + Sync, S: Source, K: Sink, H: Host>(
         (S.left source.old) (S.left source.new) }
     ensures bounded { IsReadWithin S.Source source.old source.new 67108865 }
 {
+    let alloc = rt.alloc();
     match command {
         Command::Replay => status_of(replay(alloc, source, sink, stock)),
         Command::Show => status_of(show(alloc, source, sink)),
@@ -76,7 +76,7 @@ fn run_command<W: Threads + Wait + Sync, S: Source, K: Sink, H: Host>(
         Command::Serve => run_serve(rt, alloc, source, sink, host),
         Command::Slave => run_slave(alloc, source, sink, host, stock),
         Command::Join => status_of(join(alloc, source, sink)),
-        Command::Audit(capacity) => audit_status(audit(alloc, capacity, source, sink)),
+        Command::Audit(capacity) => audit_status(audit(alloc, capacity.get(), source, sink)),
         Command::Pools => status_of(pools(alloc, source, sink)),
     }
 }
@@ -103,8 +103,8 @@ pub fn run<W: AllocGlobal + Threads + Wait + Sync, S: Source, K: Sink, H: Host>(
 
     // The whole output of the command that the words ask for was written, and the status says how
     // it ends: where neither side failed and memory was found,
-    ensures output { (command : Command) → words_command_of (map (λ w. w.now) words.now) ≡ Some command
-        → IsOfLab command → (input : List ℕ) → S.left source.old ≡ Some input
+    ensures output { (command : Command)
+        → words_command_of (map (λ w. w.now) words.now) ≡ Some command → IsOfLab command → (input : List ℕ) → S.left source.old ≡ Some input
         → (HasRisen (S.faults source.old) (S.faults source.new) → ⊥)
         → (HasRisen (K.faults sink.old) (K.faults sink.new) → ⊥) → result ≢ OUT_OF_MEMORY
         → HasRun K.written K.handed sink.old sink.new
@@ -160,21 +160,22 @@ pub fn run<W: AllocGlobal + Threads + Wait + Sync, S: Source, K: Sink, H: Host>(
         (length stock.flags.items) (length stock.gaps.items)
         (S.left source.old) (S.left source.new) host.old host.new result }
     // The words for which lines are read and written, but for an audit, leave the host as it is.
-    ensures unused { (command : Command) → words_command_of (map (λ w. w.now) words.now) ≡ Some command
-        → IsOfLab command → host.new ≡ host.old }
+    ensures unused { (command : Command)
+        → words_command_of (map (λ w. w.now) words.now) ≡ Some command → IsOfLab command
+        → host.new ≡ host.old }
 
     // A fault is answered exactly where there was one, and what was written is a front of the
     // output, whatever is answered.
     ensures faults { AreFaultsAnswered result (S.faults source.old) (S.faults source.new)
         (K.faults sink.old) (K.faults sink.new) (H.faults host.old) (H.faults host.new) }
-    ensures front { (command : Command) → words_command_of (map (λ w. w.now) words.now) ≡ Some command
-        → IsOfLab command → (input : List ℕ) → S.left source.old ≡ Some input
+    ensures front { (command : Command)
+        → words_command_of (map (λ w. w.now) words.now) ≡ Some command → IsOfLab command → (input : List ℕ) → S.left source.old ≡ Some input
         → HasPutPart K.written K.handed sink.old sink.new
         (output_of (stock_of stock.flags.items stock.gaps.items) command input) }
     // Where nothing failed and nothing is refused, the answer is 0 (with 70 beside it for an
     // audit), or no memory was found.
-    ensures complete { (command : Command) → words_command_of (map (λ w. w.now) words.now) ≡ Some command
-        → (input : List ℕ) → S.left source.old ≡ Some input
+    ensures complete { (command : Command)
+        → words_command_of (map (λ w. w.now) words.now) ≡ Some command → (input : List ℕ) → S.left source.old ≡ Some input
         → IsAccepted (stock_of stock.flags.items stock.gaps.items) command input
         → (HasRisen (S.faults source.old) (S.faults source.new) → ⊥)
         → (HasRisen (K.faults sink.old) (K.faults sink.new) → ⊥)
@@ -190,9 +191,8 @@ pub fn run<W: AllocGlobal + Threads + Wait + Sync, S: Source, K: Sink, H: Host>(
     // At most 67108865 octets are read, and nothing behind the end.
     ensures bounded { IsReadWithin S.Source source.old source.new 67108865 }
 {
-    let alloc = rt.alloc();
-    match read_words(alloc, words) {
-        Ok(Some(command)) => run_command(rt, alloc, command, source, sink, host, stock),
+    match read_words(rt.alloc(), words) {
+        Ok(Some(command)) => run_command(rt, command, source, sink, host, stock),
         Ok(None) => USAGE,
         Err(_) => OUT_OF_MEMORY,
     }

@@ -138,7 +138,11 @@ pub fn slave<H: Host, K: Sink>(
     ensures host_counts { CountsOpen result (H.faults host.old) (H.faults host.new) }
     ensures sink_counts { CountsWrite result (K.faults sink.old) (K.faults sink.new) }
 {
-    let opened = host.open(settings.ip, settings.event_port, settings.general_port);
+    let opened = host.open(
+        settings.ip,
+        settings.event_port.get(),
+        settings.general_port.get(),
+    );
     let Ok(opened) = opened else {
         return Err(DaemonFault::Open);
     };

@@ -3,8 +3,7 @@
 ghost use Rattle.std.specs.{Prelude.{◌≡◌, [], length, map, not, true, IfOk}, List.{count_by}};
 ghost use Rattle.ptu_config.specs.Limits.{IsSlaveInRange};
 ghost use Rattle.ptu_judges.specs.Boxes.{IsFreshStock};
-ghost use Rattle.ptu_judges.specs.Held.{IsStock, fresh};
-ghost use Rattle.ptu_profile.specs.Slave.{IsWithinLimits};
+ghost use Rattle.ptu_judges.specs.Held.{HasNone, HasTaken, IsStock, fresh};
 ghost use Rattle.ptu_slave_daemon.specs.Opening.{are_enough, slave_config_of, watched_master_of, node_of, judge_rule_of};
 ghost use Rattle.ptu_slave_daemon.specs.Running.{Stands};
 ghost use Rattle.ptu_slave.specs.{Seen.{HasJudges}, SeenBy.{seen_by}};
@@ -45,14 +44,12 @@ pub fn has_judges(settings: &SlaveSettings, stock: &Stock) -> bool
 
 // What the slave is set up with.
 fn new_config(settings: &SlaveSettings) -> SlaveConfig
-    requires { IsSlaveInRange settings.now }
-    ensures config { result ≡ slave_config_of settings.now }
-    ensures limits { IsWithinLimits result }
+    ensures { result ≡ slave_config_of settings.now }
 {
     SlaveConfig {
         identity: PortIdentity {
             clock: settings.clock,
-            port: settings.port,
+            port: settings.port.get(),
         },
         domain: settings.domain,
         wants: Wants {
@@ -93,6 +90,19 @@ fn rule(master: &MasterSetting) -> Rule
     }
 }
 
+// Takes a judge of this rule from a stock that has one.
+fn take_judge(stock: &mut Stock, rule: Rule) -> Box<dyn Judge>
+    requires stock { IsStock (map held stock.old.flags.items)
+        (map held stock.old.gaps.items) }
+    requires some { HasNone rule (map held stock.old.flags.items)
+        (map held stock.old.gaps.items) → ⊥ }
+    ensures { HasTaken rule (map held stock.old.flags.items)
+        (map held stock.old.gaps.items) (map held stock.new.flags.items)
+        (map held stock.new.gaps.items) (held result) }
+{
+    stock.take(rule).unwrap()
+}
+
 // A judge for each master, of the rule that its settings say.
 fn new_judges(
     alloc: Global,
@@ -108,10 +118,7 @@ fn new_judges(
 {
     let mut judges = Vec::new(alloc);
     for master in masters {
-        let Some(judge) = stock.take(rule(master)) else {
-            unreachable!();
-        };
-        judges.push(judge)?;
+        judges.push(take_judge(&mut stock, rule(master)))?;
     }
     Ok(judges)
 }

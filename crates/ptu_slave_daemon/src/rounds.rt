@@ -40,8 +40,10 @@ fn happen<P: Port, C: Clock>(
         × (sent : ℕ) × (failed : ℕ) × (event_failed : ℕ) × (missed : ℕ)
         × Counted sent (failed + event_failed) counts.old counts.new
         × HasFailed P.counts_once (P.faults event.old) (P.faults event.new) event_failed
-        × RoundTook (P.waiting (seen_by held slave.old).port) (P.waiting (seen_by held slave.new).port)
-        (P.faults (seen_by held slave.old).port) (P.faults (seen_by held slave.new).port) arrivals missed
+        × RoundTook (P.waiting (seen_by held slave.old).port)
+        (P.waiting (seen_by held slave.new).port)
+        (P.faults (seen_by held slave.old).port)
+        (P.faults (seen_by held slave.new).port) arrivals missed
         × RoundTook (P.waiting event.old) (P.waiting event.new)
         (P.faults event.old) (P.faults event.new) event_arrivals event_failed
         × SlaveRan P.counts_once node L (sees P.Port C.Clock (seen_by held slave.old) clock.old)

@@ -12,7 +12,10 @@ use ptu_judges::{FlagJudge, Judge, Stock};
 use ptu_outside::samples::{opened_with, still_clock};
 use ptu_outside::{Arrival, Channel, Datagram, MemClock, MemHost, MemPort, MemSink};
 use ptu_slave_daemon::{has_judges, slave};
-use ptu_units::{Kind, Log, Moment};
+use ptu_units::{
+    AnnounceLog, Domain, GrantSeconds, Kind, Log, Moment, PortNumber, ReceiptTimeout,
+    UdpPortNumber, WaitToRestore,
+};
 use std::alloc::{AllocError, Global};
 use std::process::Abort;
 use std::test::Fail;
@@ -47,21 +50,21 @@ pub(crate) fn settings(alloc: Global, rounds: u32, repeat: u32) -> Result<SlaveS
     ]?;
     Ok(SlaveSettings {
         ip: 0x7f00_0001,
-        event_port: 319,
-        general_port: 320,
+        event_port: UdpPortNumber::EVENT,
+        general_port: UdpPortNumber::GENERAL,
         clock: 0x0a00_0000_0000_0011,
-        port: 1,
-        domain: 4,
+        port: PortNumber::DEFAULT,
+        domain: Domain::DEFAULT,
         rounds,
         repeat,
-        wait_to_restore: 300,
-        announce_timeout: 3,
-        sync_timeout: 3,
-        delay_timeout: 3,
-        log_announce: Log::of(Kind::Announce, 1).ok_or("in range")?,
+        wait_to_restore: WaitToRestore::DEFAULT,
+        announce_timeout: ReceiptTimeout::DEFAULT,
+        sync_timeout: ReceiptTimeout::DEFAULT,
+        delay_timeout: ReceiptTimeout::DEFAULT,
+        log_announce: AnnounceLog::of(1).ok_or("in range")?,
         log_sync: Log::of(Kind::Sync, -4).ok_or("in range")?,
         log_delay: None,
-        duration: 300,
+        duration: GrantSeconds::REQUESTED,
         masters: MasterList::new(masters),
     })
 }

@@ -2,7 +2,6 @@
 //! refuse a moment that is too late, and one that is too early, for each kind of what may be due.
 
 ghost use Rattle.std.specs.Prelude.{IfOk};
-ghost use Rattle.ptu_profile.specs.Slave.{IsWithinLimits};
 
 use super::slave::{SECOND, config, slave_of_one};
 use ptu_judges::FlagJudge;
@@ -10,7 +9,7 @@ use ptu_outside::MemPort;
 use ptu_outside::samples::idle_port;
 use ptu_record::Wants;
 use ptu_slave::{Slave, SlaveConfig};
-use ptu_units::{Kind, Log, Moment};
+use ptu_units::{AnnounceLog, GrantSeconds, Kind, Log, Moment, WaitToRestore};
 use std::alloc::Global;
 use std::process::Abort;
 use std::test::Fail;
@@ -54,18 +53,16 @@ const DELAY_RESP: &str = "09120036040004000000000000000000000000000a000000000000
 
 // A slave that requests Announce every two seconds, Sync every second, and Delay_Resp, if at all,
 // every second. It takes each of them for lost after three intervals, and waits for five seconds.
-fn config_with(delay: bool) -> Result<SlaveConfig, Fail>
-    ensures { IfOk result IsWithinLimits }
-{
+fn config_with(delay: bool) -> Result<SlaveConfig, Fail> {
     let second = Log::of(Kind::DelayResp, 0).ok_or("in range")?;
     Ok(SlaveConfig {
         wants: Wants {
-            announce: Log::of(Kind::Announce, 1).ok_or("in range")?,
+            announce: AnnounceLog::of(1).ok_or("in range")?,
             sync: Log::of(Kind::Sync, 0).ok_or("in range")?,
             delay: if delay { Some(second) } else { None },
-            seconds: 300,
+            seconds: GrantSeconds::REQUESTED,
         },
-        wait: 5,
+        wait: WaitToRestore::of(5).ok_or("in range")?,
         ..config()?
     })
 }
