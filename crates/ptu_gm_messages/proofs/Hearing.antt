@@ -16,7 +16,8 @@ use Rattle.ptu_gm_messages.specs.declared.{item.Item.{Item}, reason.GmReason.{Gm
 use Rattle.ptu_gm_messages.specs.declared.reason.GmReason.TheVariants as reasons
 use Rattle.ptu_gm_messages.specs.declared.heard.Heard.{Heard}
 use Rattle.ptu_gm_messages.specs.declared.heard.Heard.TheVariants as heard
-use Rattle.ptu_gm_messages.specs.Items.{AreAnswerable, HasTlvs, IsAnswerable, heard_by, heard_in, is_for, items_among, items_by, items_in, with_items}
+use Rattle.ptu_gm_messages.specs.Items.{AreAnswerable, HasTlvs, IsAnswerable, heard_by, heard_in, items_among, items_by, items_in, with_items}
+use Rattle.ptu_profile.specs.Target.{is_target}
 use Rattle.ptu_gm_messages.proofs.Octets.{AreOctets, answerable_among, are_octets, part_octets}
 
 -- ---- by the message that was read
@@ -77,8 +78,8 @@ by_items : (config : GmConfig) (octets : List ℕ) (header : Header) (b : Body) 
     → AreFoundAnswerable (items_by config header b)
 by_items config octets header (body.Signaling target tlvs) h o =
     let all : AreAnswerable (items_among tlvs) = answerable_among (slice_range octets 44 h.n) tlvs (part_octets octets 44 h.n o) h.body.1 in
-    for_domain (if is_for config.identity target then Ok (items_among tlvs) else Err reasons.Target) (header.domain == config.domain) header.domain
-    (for_target (Ok (items_among tlvs)) (is_for config.identity target) all)
+    for_domain (if is_target config.identity target then Ok (items_among tlvs) else Err reasons.Target) (header.domain == config.domain) header.domain
+    (for_target (Ok (items_among tlvs)) (is_target config.identity target) all)
 by_items config octets header (body.Sync stamp) h o = tt
 by_items config octets header (body.DelayReq stamp) h o = tt
 by_items config octets header (body.FollowUp stamp) h o = tt

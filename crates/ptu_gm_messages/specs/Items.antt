@@ -1,14 +1,14 @@
 -- What a datagram asks of a grandmaster, or the first reason why it is ignored (IEEE 1588-2019 clauses 13.12 and 16.1; the
 -- order of the reasons is the project's own choice).
-use Rattle.std.specs.Prelude.{ℕ, ◌-◌, ◌^◌, ◌<◌, ◌≤◌, Bool, ◌&&◌, ◌||◌, ◌==◌, if◌then◌else◌, List, All, length, filter_map, Option, Some, None, Result, Ok, Err}
-use Rattle.ptu_messages.specs.declared.header.{Header.{Header}, PortIdentity.{PortIdentity}}
+use Rattle.std.specs.Prelude.{ℕ, ◌<◌, ◌≤◌, ◌==◌, if◌then◌else◌, List, All, length, filter_map, Option, Some, None, Result, Ok, Err}
+use Rattle.ptu_messages.specs.declared.header.Header.{Header}
 use Rattle.ptu_messages.specs.declared.tlv.Tlv.{Tlv}
 use Rattle.ptu_messages.specs.declared.tlv.Tlv.TheVariants as tlv
 use Rattle.ptu_messages.specs.declared.message.Body.{Body}
 use Rattle.ptu_messages.specs.declared.message.Body.TheVariants as body
 use Rattle.ptu_messages.specs.declared.message.Message.{Message}
 use Rattle.ptu_messages.specs.{declared.fault.MessageFault.{MessageFault}, Reading.{message_in}}
-use Rattle.ptu_profile.specs.declared.grandmaster.GmConfig.{GmConfig}
+use Rattle.ptu_profile.specs.{declared.grandmaster.GmConfig.{GmConfig}, Target.{is_target}}
 use Rattle.ptu_gm_messages.specs.declared.item.{Item.{Item}, Item.TheVariants.{Request, Cancel}}
 use Rattle.ptu_gm_messages.specs.declared.reason.GmReason.{GmReason}
 use Rattle.ptu_gm_messages.specs.declared.reason.GmReason.TheVariants.{Fault, UnknownType, Other, Domain, Target}
@@ -37,11 +37,6 @@ pub record AreAnswerable (items : List Item) : Type 0 where
   pub codes : All HasCode items
   pub few : length items ≤ 32
 
--- a targetPortIdentity matches where each of its parts is the own or all ones
-abbrev pub is_for : PortIdentity → PortIdentity → Bool
-is_for own target =
-    (target.clock == own.clock || target.clock == 2 ^ 64 - 1) && (target.port == own.port || target.port == 2 ^ 16 - 1)
-
 -- what is found in a message with this header, where it is of the own domain
 abbrev pub in_domain : {A : Type 0} → GmConfig → Header → Result A GmReason → Result A GmReason
 in_domain config header found = if header.domain == config.domain then found else Err (Domain header.domain)
@@ -54,7 +49,7 @@ HasTlvs _ = ⊥
 -- the items of a message, where it is a Signaling for this grandmaster
 abbrev pub items_by : GmConfig → Header → Body → Result (List Item) GmReason
 items_by config header (body.Signaling target tlvs) =
-    in_domain config header (if is_for config.identity target then Ok (items_among tlvs) else Err Target)
+    in_domain config header (if is_target config.identity target then Ok (items_among tlvs) else Err Target)
 items_by config header body.Ignored = Err (UnknownType header.message_type)
 items_by config header _ = Err (Other header.message_type)
 

@@ -2,6 +2,7 @@
 //! cancels (IEEE 1588-2019 clause 16.1).
 #![tactic(auto)]
 
+mod client;
 mod heard;
 mod item;
 pub mod laws;
@@ -10,6 +11,7 @@ mod reason;
 mod replying;
 mod room;
 
+pub use client::client_of;
 pub use heard::Heard;
 pub use item::{Item, Items};
 pub use listening::{asks_of, hear, hear_in};

@@ -4,7 +4,7 @@ ghost use Rattle.std.specs.Prelude.{◌≡◌, ◌≢◌, ◌≤◌, ◌<◌, �
 ghost use Rattle.std.specs.List.{cons_option};
 ghost use Rattle.ptu_messages.specs.{Message.{SpellsMessage}, MessageFault.{IsSignaling}};
 ghost use Rattle.ptu_messages.specs.Reading.{message_in};
-ghost use Rattle.ptu_gm_messages.specs.Items.{AreAnswerable, HasTlvs, IsAnswerable, heard_by, heard_in, is_for, item_of, items_among, items_by, items_in};
+ghost use Rattle.ptu_gm_messages.specs.Items.{AreAnswerable, HasTlvs, IsAnswerable, heard_by, heard_in, item_of, items_among, items_by, items_in};
 ghost use Rattle.ptu_gm_messages.specs.declared.reason.GmReason.{GmReason};
 
 use crate::heard::Heard;
@@ -14,7 +14,7 @@ use crate::room::HearingRoom;
 use ptu_messages::{
     Body, Header, Message, MessageFault, PortIdentity, Tlv, TlvList, read_message_in,
 };
-use ptu_profile::GmConfig;
+use ptu_profile::{GmConfig, is_target};
 use ptu_units::OutOfMemory;
 use std::alloc::{AllocError, Global};
 use std::mem::replace;
@@ -61,15 +61,6 @@ fn gather(alloc: Global, room: &mut Vec<Item>, tlvs: &[Tlv]) -> Result<Vec<Item>
     Ok(items)
 }
 
-// Whether the target is this port.
-fn matches(own: PortIdentity, target: PortIdentity) -> bool
-    ensures { result ≡ is_for own target }
-{
-    let clock = target.clock == own.clock || target.clock == u64::MAX;
-    let port = target.port == own.port || target.port == u16::MAX;
-    clock && port
-}
-
 // The message, or its fault.
 fn read(
     alloc: Global,
@@ -101,7 +92,7 @@ fn asks(
     if header.domain != config.domain.get() {
         return Ok(Err(GmReason::Domain(header.domain)));
     }
-    if !matches(config.identity, *target) {
+    if !is_target(config.identity, *target) {
         return Ok(Err(GmReason::Target));
     }
     Ok(Ok(Items::new(gather(alloc, room, tlvs.list())?)))

@@ -13,23 +13,12 @@ ghost use Rattle.ptu_grandmaster.specs.Taking.{ComesTo, IsAnswerTo, OnAsked, OnD
 use crate::gm::Gm;
 use crate::outcome::{Outcomes, Taken};
 use crate::replying::send_reply;
-use ptu_gm_messages::{Heard, Item, hear_in};
+use ptu_gm_messages::{Heard, Item, client_of, hear_in};
 use ptu_history::Client;
 use ptu_messages::Header;
 use ptu_outside::{Port, Reply};
 use ptu_units::{Moment, OutOfMemory};
 use std::mem::replace;
-
-// The client of a message with this header, which came from this IPv4 address.
-fn client(from: u32, header: &Header) -> Client
-    ensures { result ≡ client_of from header.now }
-{
-    Client {
-        ip: from,
-        clock: header.source.clock,
-        port: header.source.port,
-    }
-}
 
 impl<P: Port> Gm<P> {
     // Makes room first, then decides the items of the client, in order.
@@ -104,11 +93,11 @@ impl<P: Port> Gm<P> {
         match hear_in(self.alloc, &mut self.hearing, &self.config, bytes)? {
             Err(reason) => Ok(Taken::Ignored(reason)),
             Ok(Heard::DelayReq(header)) => {
-                let answered = self.answer_delay(t, &client(from, &header), &header);
+                let answered = self.answer_delay(t, &client_of(from, &header), &header);
                 Ok(Taken::Delay(answered))
             }
             Ok(Heard::Asks(header, items)) => {
-                let outcomes = self.decide_asks(t, &client(from, &header), items.list())?;
+                let outcomes = self.decide_asks(t, &client_of(from, &header), items.list())?;
                 self.hearing.keep(items);
                 let reply = send_reply(&mut self.reply, &self.config, from, &header, &outcomes);
                 Ok(Taken::Asked(outcomes, reply))

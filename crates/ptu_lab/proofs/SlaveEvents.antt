@@ -12,7 +12,8 @@ use Rattle.ptu_judges.specs.Held.{Held, IsFresh, fresh}
 use Rattle.ptu_profile.specs.declared.slave.{Master.{Master}, SlaveConfig.{SlaveConfig}}
 use Rattle.ptu_profile.specs.Slave.{AreMasters, address_of, priorities, timeouts}
 use Rattle.ptu_slave_messages.specs.Node.{Deed, deed, node_setup}
-use Rattle.ptu_slave_messages.specs.Sending.{all_ones, sending_departure}
+use Rattle.ptu_slave_messages.specs.Sending.{sending_departure}
+use Rattle.ptu_profile.specs.Target.{all_ones}
 use Rattle.ptu_slave.specs.{Kept.{IsSame, Kept}, Seen.{Seen}, Standing.{StandsFor, Steps, setup_of}}
 use Rattle.ptu_slave.proofs.{Ruled.{ruled_step}, Staying.{rules_stay}, Stepping.{moment_is}}
 use Rattle.ptu_report_lines.specs.declared.statement.Statement.{Statement}

@@ -9,11 +9,10 @@ ghost use Rattle.ptu_grandmaster.specs.Outcomes.{answers_seen, decision_seen, it
 ghost use Rattle.ptu_lanes.specs.Answers.{CancelFits, HasAnswered, WasDecided};
 ghost use Rattle.ptu_lanes.specs.Rounds.{HasReplied, reply_if_any};
 
-use crate::client::client;
 use crate::service::Service;
 use crate::signaling::{Control, IDLE};
 use ptu_admit::Cancelled;
-use ptu_gm_messages::{Heard, Item, hear};
+use ptu_gm_messages::{Heard, Item, client_of, hear};
 use ptu_grandmaster::{Outcome, Outcomes, reply_of};
 use ptu_history::Client;
 use ptu_messages::Header;
@@ -155,7 +154,7 @@ fn answer_signaling<P: Port + Send, L: Rates, G: Ledger, R: Ledger, W: Wait>(
         × (seat.old.refused ≤ seat.new.refused) }
 {
     let before = seat.granted() + seat.refused();
-    let client = client(origin.from, header);
+    let client = client_of(origin.from, header);
     let outcomes = answer_items(service, seat, origin.at, &client, items)?;
     let sends = send_reply(port, service.base.config, origin.from, header, &outcomes);
     Ok(Control {

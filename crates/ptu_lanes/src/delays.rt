@@ -7,10 +7,9 @@ ghost use Rattle.ptu_shared.specs.Opening.{HaveFailed};
 ghost use Rattle.ptu_lanes.specs.Waiting.{GaveFirst, HasTaken, Took};
 
 use crate::answering::Origin;
-use crate::client::client;
 use crate::service::Service;
 use crate::signaling::MOST_DATAGRAMS;
-use ptu_gm_messages::{Heard, hear};
+use ptu_gm_messages::{Heard, client_of, hear};
 use ptu_outside::{Clock, Port};
 use ptu_shard::Answered;
 use ptu_shared::Rates;
@@ -64,7 +63,7 @@ fn answer_delay<P: Port + Send, L: Rates, G: Ledger, R: Ledger, W: Wait>(
     let Service { base, shared } = service;
     match hear(base.alloc, base.config, bytes)? {
         Ok(Heard::DelayReq(header)) => {
-            let client = client(origin.from, &header);
+            let client = client_of(origin.from, &header);
             let answered = shared.answer_delay(base.rt, base.config, origin.at, &client, &header);
             Ok(delays_of(&answered))
         }

@@ -6,7 +6,6 @@
 mod answering;
 mod calls;
 mod changing;
-mod client;
 mod crew;
 mod delays;
 mod lanes;

@@ -12,7 +12,8 @@ use Rattle.ptu_gm_messages.specs.declared.heard.Heard.{Heard}
 use Rattle.ptu_gm_messages.specs.declared.heard.Heard.TheVariants as heard
 use Rattle.ptu_gm_messages.specs.declared.{item.Item.{Item}, reason.GmReason.{GmReason}}
 use Rattle.ptu_gm_messages.specs.declared.reason.GmReason.TheVariants as reasons
-use Rattle.ptu_gm_messages.specs.Items.{heard_by, heard_in, is_for, items_among, of_message, with_items}
+use Rattle.ptu_gm_messages.specs.Items.{heard_by, heard_in, items_among, of_message, with_items}
+use Rattle.ptu_profile.specs.Target.{is_target}
 use Rattle.ptu_gm_messages.proofs.Octets.{few_among}
 
 -- one reply is enough
@@ -33,7 +34,7 @@ for_domain header false d = tt
 
 few_by : (config : GmConfig) (octets : List ℕ) (header : Header) (b : Body) → SpellsMessage octets (record { header = header; body = b }) → AreFew (heard_by config header b)
 few_by config octets header (body.Signaling target tlvs) h =
-    for_target header (items_among tlvs) (is_for config.identity target) (header.domain == config.domain) header.domain (omega (arith, few_among tlvs, h.body.1.few))
+    for_target header (items_among tlvs) (is_target config.identity target) (header.domain == config.domain) header.domain (omega (arith, few_among tlvs, h.body.1.few))
 few_by config octets header (body.DelayReq stamp) h = for_domain header (header.domain == config.domain) header.domain
 few_by config octets header (body.Sync stamp) h = tt
 few_by config octets header (body.FollowUp stamp) h = tt

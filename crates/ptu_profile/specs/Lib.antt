@@ -1,3 +1,4 @@
 pub mod Headers
 pub mod Grandmaster
 pub mod Slave
+pub mod Target

@@ -16,7 +16,8 @@ use Rattle.ptu_requester.proofs.Stops.{all_cancels-before, all_cancels-next}
 use Rattle.ptu_profile.specs.declared.slave.{Master.{Master}, SlaveConfig.{SlaveConfig}}
 use Rattle.ptu_slave_messages.specs.declared.plan.{StopPlan.{StopPlan}, TickPlan.{TickPlan}}
 use Rattle.ptu_profile.specs.Slave.{address_of}
-use Rattle.ptu_slave_messages.specs.Sending.{all_ones, are_some, sending_departure, departure_to, kinds_in, stop_plan, tick_plan}
+use Rattle.ptu_slave_messages.specs.Sending.{are_some, sending_departure, departure_to, kinds_in, stop_plan, tick_plan}
+use Rattle.ptu_profile.specs.Target.{all_ones}
 use Rattle.ptu_outside.specs.declared.port.Port.{Ghosts as Ports}
 use Rattle.ptu_outside.proofs.HandsOver.{hands-append}
 use Rattle.ptu_slave.specs.{Kept.{Kept}, declared.ticks.Occasion.{Occasion}}

@@ -7,7 +7,8 @@ use Rattle.ptu_record.specs.Step.{ReplaceJudge, SlaveEvent, Stop, TellFlag, Tick
 use Rattle.ptu_record.specs.Tick.{Sending}
 use Rattle.ptu_judges.specs.Calls.{OfAll, OfOne, Then, WasAsked, WasTold}
 use Rattle.ptu_judges.specs.Held.{Held}
-use Rattle.ptu_slave_messages.specs.Sending.{all_ones, sending_departure}
+use Rattle.ptu_slave_messages.specs.Sending.{sending_departure}
+use Rattle.ptu_profile.specs.Target.{all_ones}
 use Rattle.ptu_slave.specs.{Seen.{Seen}, Standing.{StandsFor, Steps, StepsBy, setup_of}}
 use Rattle.ptu_slave.specs.declared.ticked.Ticked.{Ticked}
 

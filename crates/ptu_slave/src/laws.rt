@@ -6,7 +6,8 @@ ghost use Rattle.ptu_record.specs.Step.{ReplaceJudge, SlaveEvent, Tick, judged_m
 ghost use Rattle.ptu_judges.specs.Held.{Held};
 ghost use Rattle.ptu_slave.specs.{Kept.{Kept}, Standing.{StandsFor, Steps, setup_of}};
 ghost use Rattle.ptu_slave_messages.specs.{Heard.{replies_in}, Reception.{reception}};
-ghost use Rattle.ptu_slave_messages.specs.Sending.{all_ones, sending_departure};
+ghost use Rattle.ptu_slave_messages.specs.Sending.{sending_departure};
+ghost use Rattle.ptu_profile.specs.Target.{all_ones};
 ghost use Rattle.ptu_slave_messages.specs.Node.{Node, datagram_deed, deed};
 
 /// Where each judge has a rule, a step is the one step of the event.

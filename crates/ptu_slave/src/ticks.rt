@@ -3,7 +3,8 @@
 ghost use Rattle.std.specs.Prelude.{◌<◌, ◌≤◌, ◌+◌, List, ◌++◌, map, length};
 ghost use Rattle.ptu_outside.specs.HandsOver.{HandsOver};
 ghost use Rattle.ptu_record.specs.Tick.{Sending};
-ghost use Rattle.ptu_slave_messages.specs.Sending.{all_ones, sending_departure};
+ghost use Rattle.ptu_slave_messages.specs.Sending.{sending_departure};
+ghost use Rattle.ptu_profile.specs.Target.{all_ones};
 ghost use Rattle.ptu_slave.specs.{Kept.{Kept}, Parts.{AllSent, Ticks}};
 
 use crate::node::Core;

@@ -14,7 +14,8 @@ use Rattle.ptu_slave_messages.specs.declared.reason.SlaveReason.{SlaveReason}
 use Rattle.ptu_profile.specs.Slave.{address_of, priorities, timeouts}
 use Rattle.ptu_slave_messages.specs.Heard.{event_of, replies_in}
 use Rattle.ptu_slave_messages.specs.Node.{Node, datagram_deed, deed, node_selection, node_setup, reception_deed}
-use Rattle.ptu_slave_messages.specs.{Reception.{reception}, Sending.{all_ones, sending_departure}}
+use Rattle.ptu_slave_messages.specs.{Reception.{reception}, Sending.{sending_departure}}
+use Rattle.ptu_profile.specs.Target.{all_ones}
 use Rattle.ptu_slave.specs.{Kept.{IsSame, Kept}, Standing.{StandsFor, Steps, setup_of}}
 use Rattle.ptu_slave.proofs.{Nodes.{node_replies}, Ruled.{ruled_step}, Staying.{rules_stay}}
 use Rattle.ptu_slave.proofs.Stepping.{moment_is}

@@ -8,7 +8,8 @@ use Rattle.ptu_messages.specs.Sent.{sent_message}
 use Rattle.ptu_record.specs.Tick.{Acknowledgements, Cancels, DelayReq, Requests}
 use Rattle.ptu_profile.specs.declared.slave.{Master.{Master}, SlaveConfig.{SlaveConfig}}
 use Rattle.ptu_slave_messages.specs.declared.reason.SlaveReason.TheVariants as reasons
-use Rattle.ptu_slave_messages.specs.{Reception.{reception}, Sending.{all_ones, message_of}}
+use Rattle.ptu_slave_messages.specs.{Reception.{reception}, Sending.{message_of}}
+use Rattle.ptu_profile.specs.Target.{all_ones}
 
 -- a slave that requests Announce at logarithm 1 and Sync at logarithm 0 for 300 s
 abbrev pub sample_slave : SlaveConfig

@@ -11,7 +11,8 @@ use Rattle.ptu_slave_messages.specs.declared.heard.{Heard.{Heard}, Heard.TheVari
 use Rattle.ptu_slave_messages.specs.declared.reason.SlaveReason.{SlaveReason}
 use Rattle.ptu_profile.specs.Slave.{priorities, timeouts}
 use Rattle.ptu_slave_messages.specs.Heard.{event_of, heard_of, replies_to, reply_by}
-use Rattle.ptu_slave_messages.specs.{Reception.{reception}, Sending.{all_ones, sending_departure}}
+use Rattle.ptu_slave_messages.specs.{Reception.{reception}, Sending.{sending_departure}}
+use Rattle.ptu_profile.specs.Target.{all_ones}
 
 -- what a slave is opened with: the rule of each master's first judge, where it has one
 pub record Node : Type 0 where

@@ -9,7 +9,7 @@ use Rattle.ptu_profile.specs.declared.slave.{Master.{Master}, SlaveConfig.{Slave
 use Rattle.ptu_slave_messages.specs.declared.reason.SlaveReason.{SlaveReason}
 use Rattle.ptu_slave_messages.specs.declared.reason.SlaveReason.TheVariants.{Fault, UnknownType, Other, Stranger, Domain, Target}
 use Rattle.ptu_profile.specs.Slave.{place_of}
-use Rattle.ptu_slave_messages.specs.Sending.{all_ones}
+use Rattle.ptu_profile.specs.Target.{is_target}
 
 -- the message is of a type that this project does not know
 abbrev pub is_unknown : Body → Bool
@@ -23,11 +23,6 @@ is_delay_req body = false
 
 abbrev pub is_same : PortIdentity → PortIdentity → Bool
 is_same a b = (a.clock == b.clock) && (a.port == b.port)
-
--- a targetPortIdentity matches where each part is the own one or all ones
-abbrev pub is_target : PortIdentity → PortIdentity → Bool
-is_target own target =
-    ((target.clock == own.clock) || (target.clock == all_ones.clock)) && ((target.port == own.port) || (target.port == all_ones.port))
 
 -- a Signaling is for the slave by its target, a Delay_Resp by whose Delay_Req it answers, and other messages always
 abbrev pub is_for : PortIdentity → Body → Bool

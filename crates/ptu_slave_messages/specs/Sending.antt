@@ -20,10 +20,6 @@ use Rattle.ptu_profile.specs.Slave.{address_of, slave_header}
 
 -- ---- messages
 
--- the targetPortIdentity of a Signaling that is no reply: every port of every clock
-abbrev pub all_ones : PortIdentity
-all_ones = record { clock = 0xffffffffffffffff; port = 0xffff }
-
 -- the REQUEST of a kind that the slave wants
 abbrev pub request_of : Wants → Kind → Tlv
 request_of wants k =

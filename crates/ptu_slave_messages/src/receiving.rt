@@ -91,8 +91,8 @@ fn acks(alloc: Global, tlvs: &[Tlv]) -> Result<Vec<Tlv>, AllocError>
     tlvs.iter().filter_map(ack).collect(alloc)
 }
 
-// What is kept of a body. Of a Delay_Req and of a message of another type it is never asked: `sender`
-// has refused them before.
+// What is kept of a body. Of a Delay_Req and of a message of another type it is never asked:
+// `sender` has refused them before.
 fn content(alloc: Global, wants: &Wants, body: &Body) -> Result<Content, OutOfMemory>
     ensures content { IfOk result (λ content. content ≡ content_of wants.now body.now) }
     ensures memory { IsErr result → HasTlvs body.now }

@@ -3,20 +3,15 @@
 ghost use Rattle.std.specs.Prelude.{◌≡◌, ◌+◌, ◌<◌, ◌++◌, ◌∷◌, [], List, cond, take, map};
 ghost use Rattle.ptu_messages.specs.Sent.{IsFixed};
 ghost use Rattle.ptu_record.specs.Tick.{DelayReq};
-ghost use Rattle.ptu_slave_messages.specs.Sending.{all_ones, cancel_of, kinds_in, message_of, request_of};
+ghost use Rattle.ptu_slave_messages.specs.Sending.{cancel_of, kinds_in, message_of, request_of};
+ghost use Rattle.ptu_profile.specs.Target.{all_ones};
 
 use crate::kinds::Kinds;
-use ptu_messages::{Ask, Body, Message, PortIdentity, Tlv};
+use ptu_messages::{Ask, Body, Message, Tlv};
 use ptu_profile::SlaveConfig;
 use ptu_record::Wants;
 use ptu_units::message_types::DELAY_REQ;
 use ptu_units::{Kind, Stamp};
-
-/// The targetPortIdentity of a Signaling that is no reply: every port of every clock.
-pub(crate) const ALL_ONES: PortIdentity = PortIdentity {
-    clock: 0xffff_ffff_ffff_ffff,
-    port: 0xffff,
-};
 
 /// A Delay_Req with this sequenceId.
 pub(crate) fn delay_req(config: &SlaveConfig, sequence: u16) -> Message

@@ -2,12 +2,11 @@
 
 ghost use Rattle.std.specs.Prelude.{◌≡◌};
 ghost use Rattle.ptu_profile.specs.Slave.{place_of};
-ghost use Rattle.ptu_slave_messages.specs.Reception.{is_delay_req, is_for, is_target, is_unknown, sender_of};
+ghost use Rattle.ptu_slave_messages.specs.Reception.{is_delay_req, is_for, is_unknown, sender_of};
 
 use crate::reason::SlaveReason;
-use crate::signaling::ALL_ONES;
 use ptu_messages::{Body, Message, PortIdentity};
-use ptu_profile::{Master, SlaveConfig};
+use ptu_profile::{Master, SlaveConfig, is_target};
 
 // The place of the master that has the address.
 fn place(masters: &[Master], ip: u32) -> Option<usize>
@@ -16,20 +15,12 @@ fn place(masters: &[Master], ip: u32) -> Option<usize>
     masters.iter().position(|master| master.ip == ip)
 }
 
-// Whether the targetPortIdentity matches the slave's own port.
-fn matches_target(own: PortIdentity, target: PortIdentity) -> bool
-    ensures { result ≡ is_target own target }
-{
-    (target.clock == own.clock || target.clock == ALL_ONES.clock)
-        && (target.port == own.port || target.port == ALL_ONES.port)
-}
-
 // Whether a message with this body is for the slave with this port.
 fn suits(own: PortIdentity, body: &Body) -> bool
     ensures { result ≡ is_for own body.now }
 {
     match body {
-        Body::Signaling(target, _) => matches_target(own, *target),
+        Body::Signaling(target, _) => is_target(own, *target),
         Body::DelayResp(_, requester) => requester.clock == own.clock && requester.port == own.port,
         _ => true,
     }

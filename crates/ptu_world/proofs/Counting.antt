@@ -22,7 +22,8 @@ use Rattle.ptu_gm_messages.specs.declared.heard.Heard.TheVariants.{DelayReq, Ask
 use Rattle.ptu_gm_messages.specs.declared.{item.Item.{Item}, reason.GmReason.{GmReason}}
 use Rattle.ptu_gm_messages.specs.declared.reason.GmReason.TheVariants as ignored
 use Rattle.ptu_gm_messages.specs.Deciding.{Decision, client_of, decision_of, decisions_of, item_records, placed}
-use Rattle.ptu_gm_messages.specs.Items.{heard_by, heard_in, is_for, items_among, items_by, of_message, with_items}
+use Rattle.ptu_gm_messages.specs.Items.{heard_by, heard_in, items_among, items_by, of_message, with_items}
+use Rattle.ptu_profile.specs.Target.{is_target}
 use Rattle.ptu_record.specs.Step as slave_events
 use Rattle.ptu_profile.specs.declared.slave.Master.{Master}
 use Rattle.ptu_slave_messages.specs.declared.heard.Heard as slave_heard
@@ -108,8 +109,8 @@ in_either P false r reason h = tt
 
 few_by : (config : GmConfig) (octets : List ℕ) (header : Header) (b : Body) → SpellsMessage octets (record { header = header; body = b }) → IfOk (heard_by config header b) HasFewItems
 few_by config octets header (body.Signaling target tlvs) spells = by (items_by config header (body.Signaling target tlvs)) (
-    in_either AreFew (header.domain == config.domain) (cond (is_for config.identity target) (Ok (items_among tlvs)) (Err ignored.Target)) (ignored.Domain header.domain) (
-    in_either AreFew (is_for config.identity target) (Ok (items_among tlvs)) ignored.Target (omega (arith, few_among tlvs, spells.body.1.few))))
+    in_either AreFew (header.domain == config.domain) (cond (is_target config.identity target) (Ok (items_among tlvs)) (Err ignored.Target)) (ignored.Domain header.domain) (
+    in_either AreFew (is_target config.identity target) (Ok (items_among tlvs)) ignored.Target (omega (arith, few_among tlvs, spells.body.1.few))))
   where
     by : (found : Result (List Item) GmReason) → IfOk found AreFew → IfOk (with_items header found) HasFewItems
     by (Ok items) h = h

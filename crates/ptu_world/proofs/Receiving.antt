@@ -18,7 +18,8 @@ use Rattle.ptu_slave_messages.specs.declared.reason.SlaveReason.{SlaveReason}
 use Rattle.ptu_slave_messages.specs.declared.heard.Heard.{Heard}
 use Rattle.ptu_slave_messages.specs.declared.heard.Heard.TheVariants as heard
 use Rattle.ptu_outside.specs.declared.reply.Reply.{Reply}
-use Rattle.ptu_slave_messages.specs.{Heard.{event_of, heard_of, reply_by, replies_to, said_by}, Reception.{reception}, Sending.{all_ones}}
+use Rattle.ptu_slave_messages.specs.{Heard.{event_of, heard_of, reply_by, replies_to, said_by}, Reception.{reception}}
+use Rattle.ptu_profile.specs.Target.{all_ones}
 use Rattle.ptu_slave_messages.specs.Node as slave
 use Rattle.ptu_script.specs.declared.cause.Cause.{Cause}
 use Rattle.ptu_script.specs.declared.cause.Cause.TheVariants as causes

@@ -35,7 +35,8 @@ use Rattle.ptu_record.specs.Step as slave_events
 use Rattle.ptu_record.specs.{Record.{event_moment}, Step.{SlaveEvent, SlaveSetup, slave_step}}
 use Rattle.ptu_profile.specs.Slave.{place_of}
 use Rattle.ptu_slave_messages.specs.declared.reason.SlaveReason.{SlaveReason}
-use Rattle.ptu_slave_messages.specs.{Heard.{event_of}, Node.{datagram_heard}, Reception.{reception}, Sending.{all_ones}}
+use Rattle.ptu_slave_messages.specs.{Heard.{event_of}, Node.{datagram_heard}, Reception.{reception}}
+use Rattle.ptu_profile.specs.Target.{all_ones}
 use Rattle.ptu_world.specs.Deeds.{Grandmaster, Slave, IsGrandmaster, IsSlave}
 use Rattle.ptu_world.specs.Grandmasters.{opening as opening_of}
 use Rattle.ptu_world.specs.World.{World, Stock, Done, judges_of, node_at, opening, step}

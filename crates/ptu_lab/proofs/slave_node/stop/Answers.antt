@@ -1,6 +1,6 @@
 use Rattle.ptu_outside.proofs.HandsOver.{hands_surely, hands_whole}
 use Rattle.ptu_record.specs.Step.{Stop}
-use Rattle.ptu_slave_messages.specs.Sending.{all_ones}
+use Rattle.ptu_profile.specs.Target.{all_ones}
 use Rattle.ptu_slave.specs.Seen.{seen}
 use Rattle.ptu_lab.proofs.{SlaveEvents.{plainly_stepped}, SlaveSends.{sure_stop}}
 use Rattle.ptu_lab.proofs.slave_node.stop.Goals as goal

@@ -1,7 +1,8 @@
 use Rattle.std.proofs.Common.{◌*◌, ◌+◌, ◌≤◌, List, map}
 use Rattle.ptu_outside.specs.HandsOver.{HandsOver}
 use Rattle.ptu_record.specs.Tick.{Sending}
-use Rattle.ptu_slave_messages.specs.Sending.{all_ones, sending_departure}
+use Rattle.ptu_slave_messages.specs.Sending.{sending_departure}
+use Rattle.ptu_profile.specs.Target.{all_ones}
 use Rattle.ptu_slave.specs.Parts.{AllSent}
 use Rattle.ptu_slave.proofs.ticks.send_all.Given as goal
 

@@ -26,7 +26,7 @@ returns-in-Ok-DelayReq-clause-stands g c =
     let opened = opened_with opening c.self.inside.config in
     let Stands : Client → Type 0 = λ cl. StandsFor opening new (history ++ (core_step opened history c.args.t (events.DelayReq cl)).records) in
     rw (history_after-one opened history c.args.t (events.DelayReq (client_of c.args.from c.in-Ok-DelayReq.header)))
-    (subst Stands c.client.ensures (c.answer_delay-answered.ensures.stands opening history s)))
+    (subst Stands c.client_of.ensures (c.answer_delay-answered.ensures.stands opening history s)))
 
 pub returns-in_ok-outcomes-in-Ok-Asks-clause-stands : goal.returns-in_ok-outcomes-in-Ok-Asks-clause-stands
 returns-in_ok-outcomes-in-Ok-Asks-clause-stands g c =
@@ -35,7 +35,7 @@ returns-in_ok-outcomes-in-Ok-Asks-clause-stands g c =
     let opened = opened_with opening c.self.inside.config in
     let n0 = (c.in_ok-outcomes-in-Ok-Asks.ensures.decided opening history s).1 in
     let OfClient : Client → Type 0 = λ cl. StandsFor opening c.decide_asks.new.self (history_after opened history (events_of_items c.args.t cl c.list.result.now)) in
-    let n1 = subst OfClient c.client-in-Ok-Asks.ensures n0 in
+    let n1 = subst OfClient c.client_of-in-Ok-Asks.ensures n0 in
     let cl = client_of c.args.from c.in-Ok-Asks.header in
     let OfItems : List Item → Type 0 = λ is. StandsFor opening c.decide_asks.new.self (history_after opened history (events_of_items c.args.t cl is)) in
     let n2 = subst OfItems c.list.ensures n1 in

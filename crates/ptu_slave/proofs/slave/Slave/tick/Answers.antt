@@ -1,6 +1,7 @@
 use Rattle.std.proofs.Common.{◌∙◌, ap, length, map, subst}
 use Rattle.ptu_outside.specs.HandsOver.{HandsOver}
-use Rattle.ptu_slave_messages.specs.Sending.{all_ones, sending_departure}
+use Rattle.ptu_slave_messages.specs.Sending.{sending_departure}
+use Rattle.ptu_profile.specs.Target.{all_ones}
 use Rattle.ptu_slave.specs.{Kept.{Kept}, Seen.{seen}}
 use Rattle.ptu_slave.proofs.Ticking.{tick_states, ticked}
 use Rattle.ptu_slave.proofs.slave.Slave.tick.Goals as goal

@@ -1,4 +1,4 @@
-//! The client that a datagram comes from, by its address and its header.
+//! The client that a message comes from, by its address and its header.
 
 ghost use Rattle.std.specs.Prelude.{◌≡◌};
 ghost use Rattle.ptu_gm_messages.specs.Deciding.{client_of};
@@ -7,7 +7,7 @@ use ptu_history::Client;
 use ptu_messages::Header;
 
 /// The client of a message with this header, which came from this IPv4 address.
-pub(crate) fn client(from: u32, header: &Header) -> Client
+pub fn client_of(from: u32, header: &Header) -> Client
     ensures { result ≡ client_of from header.now }
 {
     Client {
