@@ -11,9 +11,9 @@ use crate::next::Next;
 use crate::tally::Tally;
 use ptu_config::GmSettings;
 use ptu_grandmaster::{Gm, SIGNALING_PORT};
-use ptu_outside::{Channel, Clock, Failed, Port, last_moment};
+use ptu_outside::{Channel, Clock, Failed, Port};
 use ptu_units::sizes::LONGEST_DATAGRAM;
-use ptu_units::{Capacity, OutOfMemory};
+use ptu_units::{Capacity, Moment, OutOfMemory};
 
 /// How many datagrams of a channel a round takes at most.
 const MOST: u32 = 64;
@@ -78,7 +78,7 @@ impl<P: Port, C: Clock> Daemon<P, C> {
     fn wait(&mut self)
         ensures { Ran P.Port C.Clock self.old self.new [] [] [] 0 0 0 }
     {
-        let due = self.gm.next_due(last_moment());
+        let due = self.gm.next_due(Moment::last());
         self.event.wait(due);
     }
 

@@ -8,9 +8,9 @@ use crate::delays::delay_round;
 use crate::service::Service;
 use crate::signaling::control_round;
 use crate::turns::turn_round;
-use ptu_outside::{Clock, Meeting, Port, last_moment};
+use ptu_outside::{Clock, Meeting, Port};
 use ptu_shared::{Rates, Seat};
-use ptu_units::OutOfMemory;
+use ptu_units::{Moment, OutOfMemory};
 use std::sync::Wait;
 use std::sync::ledger::Ledger;
 
@@ -147,7 +147,7 @@ impl<P: Port + Send, L: Rates, G: Ledger, R: Ledger, W: Wait> Service<'_, P, L, 
         ensures quiet { P.faults port.new ≡ P.faults port.old }
     {
         if rounds.meeting.await_others(self.base.rt) {
-            self.shared.wait(self.base.rt, port, last_moment());
+            self.shared.wait(self.base.rt, port, Moment::last());
         }
     }
 

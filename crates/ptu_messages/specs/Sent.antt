@@ -1,5 +1,5 @@
 -- The octets of a message as they are sent.
-use Rattle.std.specs.{Prelude.{ℕ, ◌+◌, ◌^◌, ◌<◌, List, [], ◌∷◌, ◌++◌, length}, List.{flat_map}}
+use Rattle.std.specs.{Prelude.{ℕ, ◌+◌, ◌^◌, ◌<◌, ⊤, List, [], ◌∷◌, ◌++◌, length}, List.{flat_map}}
 use Rattle.std.specs.Int.{w16}
 use Rattle.ptu_units.specs.declared.stamp.Stamp.{Stamp}
 use Rattle.ptu_units.specs.Number.{octets_of, signed_octets}
@@ -37,6 +37,11 @@ sent_body (Announce body) = sent_announce body
 sent_body (Signaling target tlvs) = sent_identity target ++ flat_map sent_tlv tlvs
 sent_body Ignored = []
 
+-- those of them that have a fixed length: of a Signaling its targetPortIdentity
+abbrev pub sent_front : Body → List ℕ
+sent_front (Signaling target tlvs) = sent_identity target
+sent_front body = sent_body body
+
 -- the header, whose messageLength counts all, and the body
 abbrev pub sent_message : Message → List ℕ
 sent_message message = sent_header message.header (34 + length (sent_body message.body)) ++ sent_body message.body
@@ -49,15 +54,21 @@ octets_sent message = sent_message message
 abbrev pub signaling : Header → PortIdentity → List Tlv → Message
 signaling header target tlvs = record { header = header; body = Signaling target tlvs }
 
--- the body has a fixed length, and the seconds of its timestamp are of 48 bits
+-- the seconds of its timestamp, where it has one, are of 48 bits
+abbrev pub HasShortStamp : Body → Type 0
+HasShortStamp (Sync stamp) = stamp.seconds < 2 ^ 48
+HasShortStamp (DelayReq stamp) = stamp.seconds < 2 ^ 48
+HasShortStamp (FollowUp stamp) = stamp.seconds < 2 ^ 48
+HasShortStamp (DelayResp stamp requester) = stamp.seconds < 2 ^ 48
+HasShortStamp (Announce body) = body.origin.seconds < 2 ^ 48
+HasShortStamp (Signaling target tlvs) = ⊤
+HasShortStamp Ignored = ⊤
+
+-- the body has a fixed length, and such a timestamp
 abbrev pub IsFixedBody : Body → Type 0
-IsFixedBody (Sync stamp) = stamp.seconds < 2 ^ 48
-IsFixedBody (DelayReq stamp) = stamp.seconds < 2 ^ 48
-IsFixedBody (FollowUp stamp) = stamp.seconds < 2 ^ 48
-IsFixedBody (DelayResp stamp requester) = stamp.seconds < 2 ^ 48
-IsFixedBody (Announce body) = body.origin.seconds < 2 ^ 48
 IsFixedBody (Signaling target tlvs) = ⊥
 IsFixedBody Ignored = ⊥
+IsFixedBody body = HasShortStamp body
 
 -- a message with such a body, and a header of its type
 pub record IsFixed (message : Message) : Type 0 where

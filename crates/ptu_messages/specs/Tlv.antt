@@ -17,17 +17,17 @@ HasWidths (Request ask) = HasAskWidths ask
 HasWidths (Grant ask invited) = HasAskWidths ask
 HasWidths (Cancel code) = code < 2 ^ 4
 HasWidths (Ack code) = code < 2 ^ 4
-HasWidths (Other t n) = (t < 2 ^ 16) × (n < 2 ^ 16)
+HasWidths (Other tlv_type n) = (tlv_type < 2 ^ 16) × (n < 2 ^ 16)
 
 -- the octets are a tlvType, a lengthField and as many octets of value as that says
 abbrev pub IsWhole : List ℕ → Type 0
 IsWhole octets = length octets ≡ 4 + number_at octets 2 2
 
--- the octets are a whole TLV with t as tlvType and n as lengthField
-pub record HasHead (octets : List ℕ) (t n : ℕ) : Type 0 where
-  pub whole : length octets ≡ 4 + n
-  pub tlv_type : t ≡ number_at octets 0 2
-  pub length_field : n ≡ number_at octets 2 2
+-- the octets are a whole TLV with this tlvType and this lengthField
+pub record HasHead (octets : List ℕ) (tlvType lengthField : ℕ) : Type 0 where
+  pub whole : length octets ≡ 4 + lengthField
+  pub tlv_type : tlvType ≡ number_at octets 0 2
+  pub length_field : lengthField ≡ number_at octets 2 2
 
 -- what the value begins with: the code, in the higher half of its octet, the logInterMessagePeriod and the durationField
 abbrev pub ask_at : List ℕ → Ask
@@ -44,7 +44,7 @@ SpellsTlv octets (Request ask) = HasHead octets 4 6 × (ask ≡ ask_at octets)
 SpellsTlv octets (Grant ask invited) = HasHead octets 5 8 × (ask ≡ ask_at octets) × (invited ≡ renewal_at octets)
 SpellsTlv octets (Cancel code) = HasHead octets 6 2 × (code ≡ high_nibble_at octets 4)
 SpellsTlv octets (Ack code) = HasHead octets 7 2 × (code ≡ high_nibble_at octets 4)
-SpellsTlv octets (Other t n) = HasHead octets t n × ((t < 4) ⊎ (7 < t))
+SpellsTlv octets (Other tlv_type n) = HasHead octets tlv_type n × ((tlv_type < 4) ⊎ (7 < tlv_type))
 
 -- the first `size` octets spell the TLV
 pub record BeginsWithTlv (octets : List ℕ) (tlv : Tlv) (size : ℕ) : Type 0 where

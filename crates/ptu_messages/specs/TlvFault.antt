@@ -5,10 +5,10 @@ use Rattle.ptu_messages.specs.declared.tlvs_fault.TlvFault.{TlvFault}
 use Rattle.ptu_messages.specs.declared.tlvs_fault.TlvFault.TheVariants.{Short, Overrun, Length}
 use Rattle.ptu_units.specs.Number.{number_at}
 
--- the tlvType t is a known one, and n is not its lengthField
+-- the tlvType is a known one, and n is not its lengthField
 abbrev pub HasOtherLength : ℕ → ℕ → Type 0
-HasOtherLength t n =
-    ((t ≡ 4) × (n ≢ 6)) ⊎ ((t ≡ 5) × (n ≢ 8)) ⊎ ((t ≡ 6) × (n ≢ 2)) ⊎ ((t ≡ 7) × (n ≢ 2))
+HasOtherLength tlv_type n =
+    ((tlv_type ≡ 4) × (n ≢ 6)) ⊎ ((tlv_type ≡ 5) × (n ≢ 8)) ⊎ ((tlv_type ≡ 6) × (n ≢ 2)) ⊎ ((tlv_type ≡ 7) × (n ≢ 2))
 
 -- the first fault that applies, with its numbers: each case says that those before it don't apply
 abbrev pub HasTlvFault : List ℕ → TlvFault → Type 0
@@ -17,12 +17,12 @@ HasTlvFault octets (Short have) =
 HasTlvFault octets (Overrun said have) =
     (4 + have ≡ length octets)
     × (said ≡ number_at octets 2 2) × (have < said)
-HasTlvFault octets (Length t said) =
+HasTlvFault octets (Length tlv_type said) =
     (4 + said ≤ length octets)
-    × (t ≡ number_at octets 0 2) × (said ≡ number_at octets 2 2) × HasOtherLength t said
+    × (tlv_type ≡ number_at octets 0 2) × (said ≡ number_at octets 2 2) × HasOtherLength tlv_type said
 
 -- what a person is told of it
 abbrev pub tlv_fault_text : TlvFault → List ℕ
 tlv_fault_text (Short have) = decimal have ++ codes " octets are fewer than the 4 that begin a TLV"
 tlv_fault_text (Overrun said have) = codes "lengthField is " ++ (decimal said ++ (codes " where " ++ (decimal have ++ codes " octets follow")))
-tlv_fault_text (Length t said) = codes "lengthField is " ++ (decimal said ++ (codes ", which tlvType " ++ (decimal t ++ codes " never has")))
+tlv_fault_text (Length tlv_type said) = codes "lengthField is " ++ (decimal said ++ (codes ", which tlvType " ++ (decimal tlv_type ++ codes " never has")))

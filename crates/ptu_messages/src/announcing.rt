@@ -6,6 +6,7 @@ ghost use Rattle.ptu_messages.specs.Sent.{sent_announce};
 
 use crate::message::AnnounceBody;
 use crate::stamps::{stamp, stamp_octets};
+use ptu_units::sizes::HEADER_LENGTH;
 use ptu_units::{i16_at, u16_at, u64_at};
 
 /// The body in octets 34 to 63 of an Announce.
@@ -14,7 +15,7 @@ pub fn announce(octets: &[u8]) -> AnnounceBody
     ensures { result ≡ announce_at octets.now }
 {
     AnnounceBody {
-        origin: stamp(octets, 34),
+        origin: stamp(octets, HEADER_LENGTH),
         utc_offset: i16_at(octets, 44),
         priority1: octets[47],
         class: octets[48],

@@ -12,15 +12,13 @@ use crate::announcing::announce;
 use crate::fault::MessageFault;
 use crate::message::{Body, Message};
 use crate::stamps::stamp;
+use crate::tlv::TLVS_AT;
 use crate::tlv_list::TlvList;
 use crate::{PortIdentity, Tlv, next_tlv, read_header};
 use ptu_units::message_types::{ANNOUNCE, DELAY_REQ, DELAY_RESP, FOLLOW_UP, SIGNALING, SYNC};
-use ptu_units::sizes::{ANNOUNCE_LENGTH, DELAY_RESP_LENGTH, HEADER_LENGTH, SYNC_LENGTH};
+use ptu_units::sizes::{ANNOUNCE_LENGTH, DELAY_RESP_LENGTH, HEADER_LENGTH, MOST_TLVS, SYNC_LENGTH};
 use std::alloc::Global;
 use std::mem::replace;
-
-/// How many TLVs a Signaling is read with at most.
-const MOST_TLVS: usize = 32;
 
 // The least messageLength of a messageType.
 fn least(message_type: u8) -> usize
@@ -44,7 +42,7 @@ fn read_tlvs(mut tlvs: Vec<Tlv>, bytes: &[u8], end: usize) -> Result<Vec<Tlv>, M
     if tlvs.reserve(MOST_TLVS).is_err() {
         return Err(MessageFault::OutOfMemory);
     }
-    let mut at = 44;
+    let mut at = TLVS_AT;
     while at < end {
         if tlvs.len() == MOST_TLVS {
             return Err(MessageFault::TooMany { at });
@@ -76,14 +74,14 @@ fn read_body(
     ensures memory { result ≡ Err MessageFault.OutOfMemory → message_type ≡ 12 }
 {
     match message_type {
-        SYNC => Ok(Body::Sync(stamp(bytes, 34))),
-        DELAY_REQ => Ok(Body::DelayReq(stamp(bytes, 34))),
-        FOLLOW_UP => Ok(Body::FollowUp(stamp(bytes, 34))),
-        DELAY_RESP => Ok(Body::DelayResp(stamp(bytes, 34), PortIdentity::at(bytes, 44))),
+        SYNC => Ok(Body::Sync(stamp(bytes, HEADER_LENGTH))),
+        DELAY_REQ => Ok(Body::DelayReq(stamp(bytes, HEADER_LENGTH))),
+        FOLLOW_UP => Ok(Body::FollowUp(stamp(bytes, HEADER_LENGTH))),
+        DELAY_RESP => Ok(Body::DelayResp(stamp(bytes, HEADER_LENGTH), PortIdentity::at(bytes, 44))),
         ANNOUNCE => Ok(Body::Announce(announce(bytes))),
         SIGNALING => {
             let tlvs = read_tlvs(replace(room, Vec::new(alloc)), bytes, said)?;
-            Ok(Body::Signaling(PortIdentity::at(bytes, 34), TlvList::new(tlvs)))
+            Ok(Body::Signaling(PortIdentity::at(bytes, HEADER_LENGTH), TlvList::new(tlvs)))
         }
         _ => Ok(Body::Ignored),
     }

@@ -7,9 +7,10 @@ ghost use Rattle.ptu_messages.specs.Tlvs.{AreSpelled};
 ghost use Rattle.ptu_messages.specs.Sent.{sent_message, signaling, AlwaysSpells};
 
 use crate::putting::put;
+use crate::tlv::TLVS_AT;
 use crate::to_tlv::ToTlv;
 use crate::{Header, PortIdentity, Tlv, write_header, write_tlv};
-use ptu_units::sizes::LONGEST_SIGNALING;
+use ptu_units::sizes::{HEADER_LENGTH, LONGEST_SIGNALING, LONGEST_TLV};
 
 // Puts the TLVs at octet 44 and behind, and says where they end.
 fn put_tlvs<T: ToTlv>(out: &mut [u8; LONGEST_SIGNALING], members: &[T]) -> usize
@@ -22,9 +23,9 @@ fn put_tlvs<T: ToTlv>(out: &mut [u8; LONGEST_SIGNALING], members: &[T]) -> usize
     ensures spelled { AreSpelled (flat_map sent_tlv (map T.tlv members.now))
         (map T.tlv members.now) }
 {
-    let mut size = 44;
+    let mut size = TLVS_AT;
     for member in members {
-        let mut octets = [0; 12];
+        let mut octets = [0; LONGEST_TLV];
         let count = write_tlv(&member.to_tlv(), &mut octets);
         put(out, size, &octets[..count]);
         size += count;
@@ -54,10 +55,10 @@ pub fn write_signaling_of<T: ToTlv>(
         (signaling header.now target.now (map T.tlv members.now)) }
 {
     let size = put_tlvs(out, members);
-    let mut front = [0; 34];
+    let mut front = [0; HEADER_LENGTH];
     write_header(header, size as u16, &mut front);
     put(out, 0, &front);
-    put(out, 34, &target.octets());
+    put(out, HEADER_LENGTH, &target.octets());
     size
 }
 

@@ -1,5 +1,7 @@
 //! The TLVs of unicast negotiation as values (IEEE 1588-2019 clauses 14.1 and 16.1.4).
 
+use ptu_units::sizes::SYNC_LENGTH;
+
 /// The tlvType of REQUEST_UNICAST_TRANSMISSION (IEEE 1588-2019 clause 14.1, table 52).
 pub(crate) const REQUEST: u16 = 0x0004;
 
@@ -11,6 +13,19 @@ pub(crate) const CANCEL: u16 = 0x0006;
 
 /// The tlvType of ACKNOWLEDGE_CANCEL_UNICAST_TRANSMISSION.
 pub(crate) const ACKNOWLEDGE: u16 = 0x0007;
+
+/// Where the TLVs of a Signaling begin, behind its header and its targetPortIdentity (IEEE
+/// 1588-2019 clause 13.12).
+pub(crate) const TLVS_AT: usize = SYNC_LENGTH;
+
+/// The lengthField of a REQUEST_UNICAST_TRANSMISSION, in octets (IEEE 1588-2019 clause 16.1.4.1).
+pub(crate) const REQUEST_LENGTH: u16 = 6;
+
+/// That of a GRANT_UNICAST_TRANSMISSION.
+pub(crate) const GRANT_LENGTH: u16 = 8;
+
+/// That of a CANCEL_UNICAST_TRANSMISSION and of its acknowledgement.
+pub(crate) const KIND_LENGTH: u16 = 2;
 
 /// What is asked for, or granted: messages of a kind, how often and for how long
 /// (IEEE 1588-2019 clause 16.1.4.1).

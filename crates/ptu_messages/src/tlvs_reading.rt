@@ -5,7 +5,9 @@ ghost use Rattle.ptu_messages.specs.Tlv.{IsWhole, IsFirst, ask_at, SpellsTlv, Be
 ghost use Rattle.ptu_messages.specs.{TlvFault.{HasTlvFault}, TlvsReading.{tlv_in}, declared.tlv.Tlv.{Tlv}};
 ghost use Rattle.ptu_messages.specs.declared.tlvs_fault.TlvFault.{TlvFault};
 
-use crate::tlv::{ACKNOWLEDGE, Ask, CANCEL, GRANT, REQUEST, Tlv};
+use crate::tlv::{
+    ACKNOWLEDGE, Ask, CANCEL, GRANT, GRANT_LENGTH, KIND_LENGTH, REQUEST, REQUEST_LENGTH, Tlv,
+};
 use crate::tlvs_fault::TlvFault;
 use ptu_units::{high_nibble, u16_at, u32_at};
 
@@ -47,10 +49,10 @@ fn tlv_of(octets: &[u8]) -> Result<Tlv, TlvFault>
     let tlv_type = u16_at(octets, 0);
     let length = u16_at(octets, 2);
     match (tlv_type, length) {
-        (REQUEST, 6) => Ok(Tlv::Request(ask_of(octets))),
-        (GRANT, 8) => Ok(Tlv::Grant(ask_of(octets), octets[11] & 1 == 1)),
-        (CANCEL, 2) => Ok(Tlv::Cancel(high_nibble(octets, 4))),
-        (ACKNOWLEDGE, 2) => Ok(Tlv::Ack(high_nibble(octets, 4))),
+        (REQUEST, REQUEST_LENGTH) => Ok(Tlv::Request(ask_of(octets))),
+        (GRANT, GRANT_LENGTH) => Ok(Tlv::Grant(ask_of(octets), octets[11] & 1 == 1)),
+        (CANCEL, KIND_LENGTH) => Ok(Tlv::Cancel(high_nibble(octets, 4))),
+        (ACKNOWLEDGE, KIND_LENGTH) => Ok(Tlv::Ack(high_nibble(octets, 4))),
         (REQUEST..=ACKNOWLEDGE, _) => Err(TlvFault::Length {
             tlv_type,
             said: usize::from(length),

@@ -6,6 +6,7 @@ ghost use Rattle.ptu_messages.specs.HeaderSent.{control_of, sent_header};
 
 use crate::header::Header;
 use ptu_units::message_types::{DELAY_REQ, DELAY_RESP, FOLLOW_UP, SYNC};
+use ptu_units::sizes::HEADER_LENGTH;
 
 /// minorVersionPTP 1 and versionPTP 2.
 const SENT_VERSION: u8 = 0x12;
@@ -27,12 +28,12 @@ fn control(message_type: u8) -> u8
 }
 
 // The octets of a header as they are sent.
-fn sent(header: Header, length: u16) -> [u8; 34]
+fn sent(header: Header, length: u16) -> [u8; HEADER_LENGTH]
     requires { header.message_type < 16 }
     ensures octets { result ≡ sent_header header length }
     ensures widths { HasWidths header }
 {
-    let mut octets = [0; 34];
+    let mut octets = [0; HEADER_LENGTH];
     octets[0] = header.message_type;
     octets[1] = SENT_VERSION;
     octets[2..4].copy_from_slice(&length.to_be_bytes());
@@ -49,7 +50,7 @@ fn sent(header: Header, length: u16) -> [u8; 34]
 /// Writes the header of a message of `length` octets as it is sent: majorSdoId 0, versionPTP 2,
 /// minorVersionPTP 1, logMessageInterval 7F, the controlField of its type, and 0 in what is
 /// reserved (IEEE 1588-2019 clause 13.3).
-pub fn write_header(header: &Header, length: u16, out: &mut [u8; 34])
+pub fn write_header(header: &Header, length: u16, out: &mut [u8; HEADER_LENGTH])
     requires message_type { header.now.message_type < 16 }
     requires least { 34 ≤ length }
 

@@ -9,7 +9,7 @@ ghost use Rattle.ptu_slave_daemon.specs.Happenings.{SlaveHappening, Stops, Ticks
 ghost use Rattle.ptu_slave_daemon.specs.Running.{Counted, CountsGrow, IsFew, SlaveRan, Stands, SlaveTook, sees};
 
 use crate::counts::Counts;
-use ptu_outside::{Clock, Port, Reply, last_moment};
+use ptu_outside::{Clock, Port, Reply};
 use ptu_slave::{Heard, Slave};
 use ptu_units::{Moment, OutOfMemory};
 use std::alloc::Global;
@@ -98,7 +98,7 @@ pub(crate) fn tick<P: Port, C: Clock>(
     let ticked = slave.tick(at);
     let master = slave.selected_address(at);
     counts.add(ticked.sent, ticked.failed);
-    let due = slave.next_due(last_moment());
+    let due = slave.next_due(Moment::last());
     event.wait(wake_for(due));
     master
 }

@@ -1,6 +1,6 @@
 //! Moments in nanoseconds. They are passed in by callers; nothing in the core reads a clock.
 
-ghost use Rattle.std.specs.{Prelude.{◌≡◌, ◌<◌, ◌^◌, max}, Option.{SomeIff}};
+ghost use Rattle.std.specs.{Prelude.{◌≡◌, ◌<◌, ◌+◌, ◌^◌, max}, Option.{SomeIff}};
 
 use std::marker::Model;
 
@@ -23,11 +23,14 @@ impl Model for Moment {
 }
 
 impl Moment {
+    /// The greatest, in nanoseconds.
+    pub const GREATEST: u64 = (1 << 62) - 1;
+
     /// The moment of this many nanoseconds, or `None` from 2^62 on.
     pub fn of(nanos: u64) -> Option<Moment>
         ensures { SomeIff result (nanos < 2 ^ 62) nanos }
     {
-        if nanos < 1 << 62 {
+        if nanos <= Moment::GREATEST {
             Some(Moment { nanos })
         } else {
             None
@@ -40,6 +43,15 @@ impl Moment {
         ensures below { result < 2 ^ 62 }
     {
         self.nanos
+    }
+
+    /// The last moment that there is, 146 years after the zero that moments count from.
+    pub fn last() -> Moment
+        ensures { result + 1 ≡ 2 ^ 62 }
+    {
+        Moment {
+            nanos: Moment::GREATEST,
+        }
     }
 
     /// The later of the two moments.

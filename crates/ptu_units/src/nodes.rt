@@ -5,8 +5,8 @@ ghost use Rattle.ptu_units.specs.Limits.{IsEpoch, IsSenders};
 
 use std::marker::Model;
 
-/// How many lanes of a grandmaster turn tables beside each other, from 0 to 4; with 0 all is done on
-/// one thread. A clause sees it as that number.
+/// How many lanes of a grandmaster turn tables beside each other, from 0 to 4; with 0 all is done
+/// on one thread. A clause sees it as that number.
 #[derive(Clone, Copy, Debug, PartialEq, Eq)]
 pub struct Senders {
     lanes: u8,

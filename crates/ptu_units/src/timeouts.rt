@@ -60,9 +60,9 @@ impl ReceiptTimeout {
     }
 }
 
-/// For how many seconds a master that had failed has to be well before a slave selects it again (the
-/// wait to restore of ITU-T G.781), from 0 to 720, which is the project's own choice. A clause sees
-/// it as that number.
+/// For how many seconds a master that had failed has to be well before a slave selects it again
+/// (the wait to restore of ITU-T G.781), from 0 to 720, which is the project's own choice. A clause
+/// sees it as that number.
 #[derive(Clone, Copy, Debug, PartialEq, Eq)]
 pub struct WaitToRestore {
     seconds: u32,
