@@ -3,6 +3,7 @@
 ghost use Rattle.std.specs.Prelude.{◌≡◌, ◌<◌, ◌≤◌, ◌+◌, ◌^◌, [], length, take, drop, OnOk, IsTrue};
 ghost use Rattle.hex.specs.Hex.{encode_lower};
 
+use crate::hexadecimal::write_hexadecimal;
 use ptu_units::OutOfMemory;
 use std::alloc::Global;
 use std::marker::Model;
@@ -79,9 +80,7 @@ fn renew(last: &mut [u8], digits: &mut [u8], octets: &[u8], at: usize) -> usize
 {
     let end = octets.len().min(at + PART);
     let part = &octets[at..end];
-    if hex::encode_to_slice(part, &mut digits[2 * at..2 * end]).is_err() {
-        unreachable!();
-    }
+    write_hexadecimal(part, &mut digits[2 * at..2 * end]);
     last[at..end].copy_from_slice(part);
     end
 }

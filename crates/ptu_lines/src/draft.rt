@@ -67,8 +67,8 @@ impl Draft {
         self.put_octets(line.octets())
     }
 
-    /// Puts two hexadecimal digits in lower case for each octet. Those of octets that stand as in the
-    /// call before are not made again.
+    /// Puts two hexadecimal digits in lower case for each octet. Those of octets that stand as in
+    /// the call before are not made again.
     ///
     /// # Errors
     /// `OutOfMemory`. What is done stays, and nothing is said of the text in the making.

@@ -161,7 +161,7 @@ pub fn octets(word: &[u8], out: &mut [u8; LONGEST_DATAGRAM]) -> Option<usize>
         return Some(0);
     }
     let count = word.len() / 2;
-    if word.is_empty() || word.len() > 4096 {
+    if word.is_empty() || word.len() > 2 * LONGEST_DATAGRAM {
         return None;
     }
     hex::decode_to_slice(word, &mut out[..count]).ok()?;

@@ -6,6 +6,7 @@ mod digits;
 mod draft;
 mod fault;
 mod forms;
+mod hexadecimal;
 pub mod laws;
 mod lent_octets;
 mod line;

@@ -6,6 +6,7 @@ ghost use Rattle.std.specs.Fmt.{decimal, signed_decimal};
 ghost use Rattle.hex.specs.Hex.{encode_lower};
 ghost use Rattle.ptu_lines.specs.Line.{Line};
 
+use crate::hexadecimal::write_hexadecimal;
 use itoa::write_digits;
 use std::marker::Model;
 
@@ -92,9 +93,7 @@ impl LineText {
         ensures room { self.new.room + 2 * length octets.now ≡ self.old.room }
     {
         let at = self.at - 2 * octets.len();
-        if hex::encode_to_slice(octets, &mut self.octets[at..self.at]).is_err() {
-            unreachable!();
-        }
+        write_hexadecimal(octets, &mut self.octets[at..self.at]);
         self.at = at;
     }
 

@@ -218,6 +218,14 @@ impl LineReader {
         Ok(Some(number))
     }
 
+    /// The number of the line that `next` gave last, or 0 before the first.
+    pub fn number(&self) -> u64
+        ensures value { result ≡ self.now.number }
+        ensures few { result ≤ 67108864 }
+    {
+        self.number
+    }
+
     /// The text of the line that `next` gave last, without its 0A.
     pub fn text(&self) -> &[u8]
         ensures { result.now ≡ self.now.text }

@@ -4,8 +4,8 @@ use Rattle.hex.proofs.HexLemmas.{length-encode_with}
 use Rattle.ptu_lines.proofs.Encoded.{encode_lower-put_mid, part_renewed}
 use Rattle.ptu_lines.proofs.digits.renew.Goals as goal
 
-pub slice_bounds-encode_to_slice-end : goal.slice_bounds-encode_to_slice-end
-slice_bounds-encode_to_slice-end c = search (rules, ap length c.requires.digits, length-encode_with lower_digits c.args.last.now)
+pub slice_bounds-write_hexadecimal-end : goal.slice_bounds-write_hexadecimal-end
+slice_bounds-write_hexadecimal-end c = search (rules, ap length c.requires.digits, length-encode_with lower_digits c.args.last.now)
 
 pub returns-clause-digits : goal.returns-clause-digits
 returns-clause-digits c =
@@ -13,7 +13,7 @@ returns-clause-digits c =
     let size : ℕ = c.min-end.result - at in
     let part : List ℕ = take size (drop at c.args.octets.now) in
     let count : 2 * c.min-end.result - 2 * at ≡ 2 * size = omega arith in
-    let written : c.encode_to_slice.new.output ≡ encode_lower part = search rules in
+    let written : c.write_hexadecimal.new.room ≡ encode_lower part = search rules in
     let copied : c.copy_from_slice.new.self ≡ part = c.copy_from_slice.ensures.after in
     rw (count, written, copied, c.requires.digits) (sym (encode_lower-put_mid at size c.args.last.now part))
 
