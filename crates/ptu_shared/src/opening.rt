@@ -10,14 +10,14 @@ use std::sync::ledger::Blank;
 pub struct Blanks {
     /// The ledger of rates, with a part for each table.
     pub rates: Blank,
-    /// That of granted asks, with a part for each seat.
+    /// The ledger of granted asks, with a part for each seat.
     pub granted: Blank,
-    /// That of refused asks, with a part for each seat.
+    /// The ledger of refused asks, with a part for each seat.
     pub refused: Blank,
 }
 
 impl Blanks {
-    /// Those of tables with so many seats.
+    /// What becomes the ledgers of tables with so many seats.
     pub fn of_seats(seats: usize) -> Blanks
         ensures { (result.rates.parts ≡ 4) × (result.granted.parts ≡ seats)
             × (result.refused.parts ≡ seats) }
@@ -34,12 +34,12 @@ impl Blanks {
 /// The ports by which the messages of the four tables go.
 #[derive(Drop)]
 pub struct TablePorts<P: Port> {
-    /// That of table 0.
+    /// The port of table 0.
     pub p0: P,
-    /// That of table 1.
+    /// The port of table 1.
     pub p1: P,
-    /// That of table 2.
+    /// The port of table 2.
     pub p2: P,
-    /// That of table 3.
+    /// The port of table 3.
     pub p3: P,
 }
