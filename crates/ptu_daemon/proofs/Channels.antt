@@ -7,7 +7,8 @@ use Rattle.ptu_outside.specs.declared.channel.Channel.TheVariants as channels
 use Rattle.ptu_outside.specs.declared.{clock.Clock.{Ghosts as Clocks}, port.Port.{Ghosts as Ports}}
 use Rattle.ptu_daemon.specs.declared.daemon.Daemon.{Daemon}
 use Rattle.ptu_daemon.specs.declared.next.Next.TheVariants as nexts
-use Rattle.ptu_daemon.specs.{declared.tally.Tally.{Tally}, Events.{taking}}
+use Rattle.ptu_daemon.specs.Events.{taking}
+use Rattle.ptu_outside.specs.declared.tally.Tally.{Tally}
 use Rattle.ptu_daemon.specs.Ran.{CameTo, IsSmall, Ran, TookChannel, on_event, on_general, port_of}
 use Rattle.ptu_daemon.proofs.Running.{ran_as, ran_more, ran_none}
 

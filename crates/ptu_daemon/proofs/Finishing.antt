@@ -16,7 +16,7 @@ use Rattle.ptu_config.specs.{declared.settings.GmSettings.{GmSettings}, Rounds.{
 use Rattle.ptu_outside.specs.Ports.{HaveNotRisen, HaveRisenBy, HaveRisenJust, WereSent, ports_of, senders_of}
 use Rattle.ptu_outside.specs.{Handed.{WasHanded, WereHanded}, Taken.{Gave, event_of, general_of}}
 use Rattle.ptu_outside.specs.Rounds.{in_rounds, timed}
-use Rattle.ptu_daemon.specs.declared.tally.Tally.{Tally}
+use Rattle.ptu_outside.specs.declared.tally.Tally.{Tally}
 use Rattle.ptu_daemon.specs.Events.{Given, Happening, Takes, config_of, happenings_of, round_of, served_events}
 use Rattle.ptu_daemon.specs.Ran.{AllHandled, DidRounds, Handled, after_all, five, standing_as}
 use Rattle.ptu_daemon.specs.Sends.{sends_by}

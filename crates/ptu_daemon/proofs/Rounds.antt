@@ -9,7 +9,8 @@ use Rattle.ptu_outside.specs.declared.{clock.Clock.{Ghosts as Clocks}, port.Port
 use Rattle.ptu_config.specs.declared.settings.GmSettings.{GmSettings}
 use Rattle.ptu_outside.specs.{Rounds.{in_rounds, left_after, taken_in}, Taken.{Gave}}
 use Rattle.ptu_outside.proofs.Taken.{event_of-push, general_of-push, have_taken-none, have_taken-push, in_these-push}
-use Rattle.ptu_daemon.specs.declared.{daemon.Daemon.{Daemon}, tally.Tally.{Tally}}
+use Rattle.ptu_daemon.specs.declared.daemon.Daemon.{Daemon}
+use Rattle.ptu_outside.specs.declared.tally.Tally.{Tally}
 use Rattle.ptu_daemon.specs.Events.{Given, change_in, happenings_of, round_of, round_with, taking, turns}
 use Rattle.ptu_daemon.specs.Ran.{DidRound, DidRounds, IsSmall, Ran, TookChannel, Waits}
 use Rattle.ptu_daemon.proofs.Running.{ran_as, ran_more, ran_none}

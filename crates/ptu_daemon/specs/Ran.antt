@@ -15,7 +15,7 @@ use Rattle.ptu_outside.specs.Rounds.{in_rounds, left_after, most}
 use Rattle.ptu_outside.specs.Taken.{Gave, HappenedAt, HaveTaken, IsWithin, Round, event_of, general_of}
 use Rattle.ptu_daemon.specs.declared.{daemon.Daemon.{Daemon}, next.Next.{Next}}
 use Rattle.ptu_daemon.specs.declared.next.Next.TheVariants as nexts
-use Rattle.ptu_daemon.specs.declared.tally.Tally.{Tally}
+use Rattle.ptu_outside.specs.declared.tally.Tally.{Tally}
 use Rattle.ptu_daemon.specs.Events.{Given, Happening, Takes, happenings_of, round_of, round_with, taking}
 use Rattle.ptu_daemon.specs.Sends.{Standing, event_sends, sends_by, standing_after}
 

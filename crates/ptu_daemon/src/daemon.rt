@@ -8,10 +8,10 @@ ghost use Rattle.ptu_daemon.specs.Ran.{CameTo, DidRound, DidRounds, IsSmall, Ran
 
 use crate::events;
 use crate::next::Next;
-use crate::tally::Tally;
+use crate::tally::plus_round;
 use ptu_config::GmSettings;
 use ptu_grandmaster::{Gm, SIGNALING_PORT};
-use ptu_outside::{Channel, Clock, Failed, Port};
+use ptu_outside::{Channel, Clock, Failed, Port, Tally};
 use ptu_units::sizes::LONGEST_DATAGRAM;
 use ptu_units::{Capacity, Moment, OutOfMemory};
 
@@ -196,7 +196,7 @@ impl<P: Port, C: Clock> Daemon<P, C> {
     {
         let mut tally = Tally::default();
         for before in 0..settings.all_rounds() {
-            tally = tally.plus_round(self.round(settings, before)?, before);
+            tally = plus_round(tally, self.round(settings, before)?, before);
         }
         Ok(tally)
     }

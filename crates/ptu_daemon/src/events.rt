@@ -4,9 +4,8 @@ ghost use Rattle.std.specs.Prelude.{◌≡◌, ◌<◌, IfOk};
 ghost use Rattle.ptu_grandmaster.specs.declared.driving.GmEvent.{GmEvent};
 ghost use Rattle.ptu_daemon.specs.{Counting.{failed_for, sent_for}, Ran.{Does, IsSmall}};
 
-use crate::tally::Tally;
 use ptu_grandmaster::{Gm, Reply, Taken};
-use ptu_outside::Port;
+use ptu_outside::{Port, Tally};
 use ptu_shard::Answered;
 use ptu_units::{Capacity, Moment, OutOfMemory};
 

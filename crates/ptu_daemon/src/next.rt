@@ -1,6 +1,6 @@
 //! The next datagram of a channel.
 
-use crate::tally::Tally;
+use ptu_outside::Tally;
 
 /// What came of the next datagram of a channel.
 #[derive(Clone, Copy)]

@@ -16,7 +16,8 @@ use Rattle.ptu_gm_messages.specs.declared.{item.Item.{Item}, reason.GmReason.{Gm
 use Rattle.ptu_gm_messages.specs.declared.reason.GmReason.TheVariants as reasons
 use Rattle.ptu_gm_messages.specs.declared.heard.Heard.{Heard}
 use Rattle.ptu_gm_messages.specs.declared.heard.Heard.TheVariants as heard
-use Rattle.ptu_gm_messages.specs.Items.{AreAnswerable, HasTlvs, IsAnswerable, heard_by, heard_in, items_among, items_by, items_in, with_items}
+use Rattle.ptu_gm_messages.specs.Items.{AreAnswerable, IsAnswerable, heard_by, heard_in, items_among, items_by, items_in, with_items}
+use Rattle.ptu_messages.specs.Message.{HasTlvs}
 use Rattle.ptu_profile.specs.Target.{is_target}
 use Rattle.ptu_gm_messages.proofs.Octets.{AreOctets, answerable_among, are_octets, part_octets}
 

@@ -41,11 +41,6 @@ pub record AreAnswerable (items : List Item) : Type 0 where
 abbrev pub in_domain : {A : Type 0} → GmConfig → Header → Result A GmReason → Result A GmReason
 in_domain config header found = if header.domain == config.domain then found else Err (Domain header.domain)
 
--- the body is that of a Signaling
-abbrev pub HasTlvs : Body → Type 0
-HasTlvs (body.Signaling target tlvs) = Unit {0}
-HasTlvs _ = ⊥
-
 -- the items of a message, where it is a Signaling for this grandmaster
 abbrev pub items_by : GmConfig → Header → Body → Result (List Item) GmReason
 items_by config header (body.Signaling target tlvs) =

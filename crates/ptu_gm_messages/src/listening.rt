@@ -2,9 +2,9 @@
 
 ghost use Rattle.std.specs.Prelude.{◌≡◌, ◌≢◌, ◌≤◌, ◌<◌, ◌++◌, ℕ, [], length, All, IfOk, IfErr, OnOk, OnErr, Ok, Err};
 ghost use Rattle.std.specs.List.{cons_option};
-ghost use Rattle.ptu_messages.specs.{Message.{SpellsMessage}, MessageFault.{IsSignaling}};
+ghost use Rattle.ptu_messages.specs.{Message.{HasTlvs, SpellsMessage}, MessageFault.{IsSignaling}};
 ghost use Rattle.ptu_messages.specs.Reading.{message_in};
-ghost use Rattle.ptu_gm_messages.specs.Items.{AreAnswerable, HasTlvs, IsAnswerable, heard_by, heard_in, item_of, items_among, items_by, items_in};
+ghost use Rattle.ptu_gm_messages.specs.Items.{AreAnswerable, IsAnswerable, heard_by, heard_in, item_of, items_among, items_by, items_in};
 ghost use Rattle.ptu_gm_messages.specs.declared.reason.GmReason.{GmReason};
 
 use crate::heard::Heard;

@@ -14,7 +14,8 @@ use Rattle.ptu_gm_messages.specs.declared.{item.Item.{Item}, reason.GmReason.{Gm
 use Rattle.ptu_gm_messages.specs.declared.reason.GmReason.TheVariants as reasons
 use Rattle.ptu_gm_messages.specs.declared.heard.Heard.{Heard}
 use Rattle.ptu_gm_messages.specs.declared.heard.Heard.TheVariants as heard
-use Rattle.ptu_gm_messages.specs.Items.{HasTlvs, heard_by, heard_in, of_message}
+use Rattle.ptu_gm_messages.specs.Items.{heard_by, heard_in, of_message}
+use Rattle.ptu_messages.specs.Message.{HasTlvs}
 use Rattle.ptu_gm_messages.proofs.Hearing.{signaling_alone}
 
 pub history_after-none : (opened : Config) (history : List Record) → history_after opened history [] ≡ history

@@ -37,6 +37,11 @@ announce_at octets =
       time_source = slice_index octets 63;
     }
 
+-- the body is that of a Signaling
+abbrev pub HasTlvs : Body → Type 0
+HasTlvs (Signaling target tlvs) = Unit {0}
+HasTlvs body = ⊥
+
 -- each part is a number of as many bits as its octets have for it
 pub record HasStampWidths (stamp : Stamp) : Type 0 where
   pub seconds : stamp.seconds < 2 ^ 48

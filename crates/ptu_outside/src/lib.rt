@@ -25,6 +25,7 @@ mod sends;
 mod sink;
 mod source;
 mod standard;
+mod tally;
 
 pub use arrival::Arrival;
 pub use channel::Channel;
@@ -48,3 +49,4 @@ pub use sends::Sends;
 pub use sink::{Sink, write_whole};
 pub use source::Source;
 pub use standard::{StdSink, StdSource};
+pub use tally::Tally;

@@ -9,7 +9,7 @@ use Rattle.ptu_outside.proofs.Telling.{IfTold-refl}
 use Rattle.ptu_record.specs.Record.{Record}
 use Rattle.ptu_slave_messages.specs.Node.{Node}
 use Rattle.ptu_slave.specs.Seen.{Seen}
-use Rattle.ptu_slave_daemon.specs.declared.counts.Counts.{Counts}
+use Rattle.ptu_outside.specs.declared.tally.Tally.{Tally}
 use Rattle.ptu_slave_daemon.specs.Happenings.{arrive, record_by_happenings}
 use Rattle.ptu_slave_daemon.specs.Running.{Counted, HasFailed, IsAt, SlaveRan, RoundTook, SlaveTook, TookEvent, TookGeneral, TookOne, View}
 use Rattle.ptu_slave_daemon.proofs.Ports.{failed_append, failed_none, still_after, still_before}
@@ -17,18 +17,18 @@ use Rattle.ptu_slave_daemon.proofs.Runs.{ran_append, ran_still}
 
 -- ---- counts
 
-pub counted_none : (counts : Counts) → Counted 0 0 counts counts
+pub counted_none : (counts : Tally) → Counted 0 0 counts counts
 counted_none counts = (omega arith, omega arith)
 
-pub counted_append : (a b c : Counts) (s t f g : ℕ) → Counted s f a b → Counted t g b c → Counted (s + t) (f + g) a c
+pub counted_append : (a b c : Tally) (s t f g : ℕ) → Counted s f a b → Counted t g b c → Counted (s + t) (f + g) a c
 counted_append a b c s t f g p q = (omega (arith, p.0, q.0), omega (arith, p.1, q.1))
 
 -- the failures of two ports
-pub counted_both : (a b c : Counts) (s t f g d e : ℕ) → Counted s (f + d) a b → Counted t (g + e) b c → Counted (s + t) (f + g + (d + e)) a c
+pub counted_both : (a b c : Tally) (s t f g d e : ℕ) → Counted s (f + d) a b → Counted t (g + e) b c → Counted (s + t) (f + g + (d + e)) a c
 counted_both a b c s t f g d e p q = (omega (arith, p.0, q.0), omega (arith, p.1, q.1))
 
 -- those of a round: of the general channel, of the event channel, and of the tick
-pub counted_round : (a b c d : Counts) (s t u f g h e : ℕ) → Counted s f a b → Counted t (g + e) b c → Counted u h c d → Counted (s + t + u) (f + g + h + e) a d
+pub counted_round : (a b c d : Tally) (s t u f g h e : ℕ) → Counted s f a b → Counted t (g + e) b c → Counted u h c d → Counted (s + t + u) (f + g + h + e) a d
 counted_round a b c d s t u f g h e p q r = (omega (arith, p.0, q.0, r.0), omega (arith, p.1, q.1, r.1))
 
 -- ---- what waits
@@ -131,7 +131,7 @@ Way = (before after : Option (List Arrival)) → (old new : ℕ) → List Arriva
 
 module _ {P B C : Type 0} (ports : Ports P) (clocks : Clocks C) where
   -- none was taken of the slave's port so far
-  pub general_none : (slave : Seen P B) (clock : C) (counts : Counts) → TookGeneral ports clocks slave slave clock clock (CameSoFar 0) counts counts
+  pub general_none : (slave : Seen P B) (clock : C) (counts : Tally) → TookGeneral ports clocks slave slave clock clock (CameSoFar 0) counts counts
   general_none slave clock counts = λ node L h. (
     [],
     0,
@@ -143,7 +143,7 @@ module _ {P B C : Type 0} (ports : Ports P) (clocks : Clocks C) where
   )
 
   -- and none of the event channel's
-  pub event_none : (slave : Seen P B) (clock : C) (event : P) (counts : Counts)
+  pub event_none : (slave : Seen P B) (clock : C) (event : P) (counts : Tally)
       → TookEvent ports clocks slave slave clock clock event event (CameSoFar 0) counts counts
   event_none slave clock event counts = λ node L h. (
     [],
@@ -156,7 +156,7 @@ module _ {P B C : Type 0} (ports : Ports P) (clocks : Clocks C) where
     took_none ports.counts_once node L _ _ 0 h refl refl refl refl (failed_none ports.counts_once _ _ refl),
   )
 
-  module _ (First Next Both : Way) (old now new : Seen P B) (clock mid clock' : C) (a b c : Counts) where
+  module _ (First Next Both : Way) (old now new : Seen P B) (clock mid clock' : C) (a b c : Tally) where
     -- some were taken of it, and then more
     pub general_more : ((xs ys : List Arrival) (m n : ℕ) → First (ports.waiting old.port) (ports.waiting now.port) (ports.faults old.port) (ports.faults now.port) xs m
         → Next (ports.waiting now.port) (ports.waiting new.port) (ports.faults now.port) (ports.faults new.port) ys n → HasNotFallen (ports.faults old.port) (ports.faults now.port)

@@ -8,7 +8,7 @@ use Rattle.ptu_outside.proofs.Taken.{event_of-push, general_of-push, have_taken-
 use Rattle.ptu_outside.proofs.Telling.{IfTold-refl}
 use Rattle.ptu_record.specs.Record.{Record}
 use Rattle.ptu_slave_messages.specs.Node.{Node}
-use Rattle.ptu_slave_daemon.specs.declared.counts.Counts.{Counts}
+use Rattle.ptu_outside.specs.declared.tally.Tally.{Tally}
 use Rattle.ptu_slave_daemon.specs.Happenings.{SlaveHappening, Selection, Stops, Ticks, happenings_of_rounds, arrive, record_by_happenings, slave_round_of, slave_round_with}
 use Rattle.ptu_slave_daemon.specs.Running.{AreSlaveRounds, Counted, HasFailed, IsAt, SlaveRan, RoundTook, RoundsDone, RunDone, View}
 use Rattle.ptu_slave_daemon.proofs.Arrived.{came_append, came_none}
@@ -123,7 +123,7 @@ module _ (once : Bool) (node : Node) (L : Record) (old : View) (general event : 
   }
 
   pub done_more : (n : ℕ) (now new : View) (general' general'' event' event'' : Option (List Arrival)) (event_faults' event_faults'' : ℕ) (ss : List Selection) (s : Selection)
-      (before after : Counts) (xs ys : List Arrival) (hs : List SlaveHappening) (sent failed event_failed missed : ℕ)
+      (before after : Tally) (xs ys : List Arrival) (hs : List SlaveHappening) (sent failed event_failed missed : ℕ)
       → (p : RoundsDone once n ss before.sent before.failed node L old now general general' event event' event_faults event_faults')
       → Counted sent (failed + event_failed) before after → HasFailed once event_faults' event_faults'' event_failed
       → RoundTook general' general'' now.faults new.faults xs missed → RoundTook event' event'' event_faults' event_faults'' ys event_failed
@@ -159,7 +159,7 @@ module _ (once : Bool) (node : Node) (L : Record) (old : View) (general event : 
 
   -- and the stop
   pub done_run : (n : ℕ) (now new : View) (general' general'' event' : Option (List Arrival)) (event_faults' : ℕ) (ss : List Selection)
-      (before after : Counts) (hs : List SlaveHappening) (sent failed : ℕ)
+      (before after : Tally) (hs : List SlaveHappening) (sent failed : ℕ)
       → (p : RoundsDone once n ss before.sent before.failed node L old now general general' event event' event_faults event_faults')
       → Counted sent failed before after → general'' ≡ general'
       → SlaveRan once node (record_by_happenings node L p.hs) now new (Stops ∷ []) hs [] sent failed 0

@@ -10,22 +10,23 @@ use Rattle.ptu_slave_messages.specs.Node.{Node}
 use Rattle.ptu_slave.specs.{Kept.{Kept}, Seen.{Seen}, Standing.{StandsFor}}
 use Rattle.ptu_outside.specs.{Handed.{SentPart}, Rounds.{in_rounds, left_after, moments_after, timed}}
 use Rattle.ptu_outside.specs.Taken.{Gave, HappenedAt, HaveTaken, Round, event_of, general_of}
-use Rattle.ptu_slave_daemon.specs.declared.{counts.Counts.{Counts}, line.SlaveLine.{SlaveLine}}
+use Rattle.ptu_slave_daemon.specs.declared.line.SlaveLine.{SlaveLine}
+use Rattle.ptu_outside.specs.declared.tally.Tally.{Tally}
 use Rattle.ptu_slave_daemon.specs.Happenings.{SlaveHappening, Stops, happenings_of_rounds, arrive, Selection, happenings, record_by_happenings, slave_round_of, selections_in, sent_by_happenings}
 use Rattle.ptu_slave_daemon.specs.Lines.{output_from}
 
 -- ---- counts
 
 -- so many more can be counted
-abbrev pub IsFew : ℕ → Counts → Type 0
+abbrev pub IsFew : ℕ → Tally → Type 0
 IsFew n counts = (counts.sent + n < 2 ^ 128) × (counts.failed + n < 2 ^ 128)
 
 -- at most so many were counted
-abbrev pub CountsGrow : ℕ → Counts → Counts → Type 0
+abbrev pub CountsGrow : ℕ → Tally → Tally → Type 0
 CountsGrow n old new = (new.sent ≤ old.sent + n) × (new.failed ≤ old.failed + n)
 
 -- so many were counted
-abbrev pub Counted : (sent failed : ℕ) → Counts → Counts → Type 0
+abbrev pub Counted : (sent failed : ℕ) → Tally → Tally → Type 0
 Counted sent failed old new = (new.sent ≡ old.sent + sent) × (new.failed ≡ old.failed + failed)
 
 -- ---- ports
@@ -194,14 +195,14 @@ module _ {P B C : Type 0} (ports : Ports P) (clocks : Clocks C) (old new : Seen 
       (ports.waiting old.port) (ports.waiting new.port) (ports.waiting event) (ports.waiting event') (ports.faults event) (ports.faults event')
 
   -- arrivals were taken of the slave's own port, in this way
-  abbrev pub TookGeneral : (Option (List Arrival) → Option (List Arrival) → ℕ → ℕ → List Arrival → ℕ → Type 0) → Counts → Counts → Type 0
+  abbrev pub TookGeneral : (Option (List Arrival) → Option (List Arrival) → ℕ → ℕ → List Arrival → ℕ → Type 0) → Tally → Tally → Type 0
   TookGeneral Way counts counts' = (node : Node) (L : Record) → Stands node old L
       → (arrivals : List Arrival) × (ok : ℕ) × (failed : ℕ) × (missed : ℕ) × Counted ok failed counts counts'
       × Way (ports.waiting old.port) (ports.waiting new.port) (ports.faults old.port) (ports.faults new.port) arrivals missed
       × SlaveTook ports.counts_once node L (sees ports clocks old clock) (sees ports clocks new clock') arrivals ok failed missed
 
   -- of the event channel's port
-  abbrev pub TookEvent : (event event' : P) → (Option (List Arrival) → Option (List Arrival) → ℕ → ℕ → List Arrival → ℕ → Type 0) → Counts → Counts → Type 0
+  abbrev pub TookEvent : (event event' : P) → (Option (List Arrival) → Option (List Arrival) → ℕ → ℕ → List Arrival → ℕ → Type 0) → Tally → Tally → Type 0
   TookEvent event event' Way counts counts' = (node : Node) (L : Record) → Stands node old L
       → (arrivals : List Arrival) × (ok : ℕ) × (failed : ℕ) × (event_failed : ℕ) × Counted ok (failed + event_failed) counts counts'
       × HasFailed ports.counts_once (ports.faults event) (ports.faults event') event_failed

@@ -3,7 +3,6 @@
 //! clause 16.1; the rounds are this project's own choice).
 #![tactic(auto)]
 
-mod counts;
 mod daemon;
 mod halt;
 mod line;

@@ -12,13 +12,12 @@ ghost use Rattle.ptu_slave_daemon.specs.Lines.{changes, output, selected_line, s
 ghost use Rattle.ptu_slave_daemon.specs.Running.{Counted, CountsGrow, HasFailed, IsFew, IsFront, SlaveRan, RoundTook, RoundsDone, RunDone, Stands, Went, sees};
 ghost use Rattle.ptu_slave.specs.{Seen.{HasJudges}, SeenBy.{seen_by}};
 
-use crate::counts::Counts;
 use crate::halt::Halt;
 use crate::line::SlaveLine;
 use crate::steps::{stop, tick};
 use crate::taking::{take_all_event, take_all_general};
 use crate::writing::{say, write_line};
-use ptu_outside::{Clock, Port, Sink};
+use ptu_outside::{Clock, Port, Sink, Tally};
 use ptu_slave::Slave;
 use ptu_units::OutOfMemory;
 use std::alloc::Global;
@@ -29,7 +28,7 @@ fn happen<P: Port, C: Clock>(
     slave: &mut Slave<P>,
     event: &mut P,
     clock: &mut C,
-    counts: &mut Counts,
+    counts: &mut Tally,
 ) -> Result<Option<u32>, OutOfMemory>
     requires few { IsFew (2 ^ 65) counts.old }
     ensures grows { CountsGrow (2 ^ 65) counts.old counts.new }
@@ -64,7 +63,7 @@ fn run_rounds<P: Port, C: Clock, K: Sink>(
     event: &mut P,
     clock: &mut C,
     sink: &mut K,
-) -> Result<Counts, Halt>
+) -> Result<Tally, Halt>
     requires { IsRoundCount rounds }
     ensures few { IfOk result (IsFew (2 ^ 64)) }
     ensures sent { P.sent event.new ≡ P.sent event.old }
@@ -86,7 +85,7 @@ fn run_rounds<P: Port, C: Clock, K: Sink>(
         (RoundsDone P.counts_once n selections sends failures) }
     ensures counts { Halts result (K.faults sink.old) (K.faults sink.new) }
 {
-    let mut counts = Counts::new();
+    let mut counts = Tally::default();
     let mut said = None;
     for before in 0..rounds {
         let Ok(master) = happen(alloc, slave, event, clock, &mut counts) else {

@@ -8,8 +8,7 @@ ghost use Rattle.ptu_slave_messages.specs.{Heard.{reply_in}, Node.{Node}};
 ghost use Rattle.ptu_slave_daemon.specs.Happenings.{SlaveHappening, Stops, Ticks};
 ghost use Rattle.ptu_slave_daemon.specs.Running.{Counted, CountsGrow, IsFew, SlaveRan, Stands, SlaveTook, sees};
 
-use crate::counts::Counts;
-use ptu_outside::{Clock, Port, Reply};
+use ptu_outside::{Clock, Port, Reply, Tally};
 use ptu_slave::{Heard, Slave};
 use ptu_units::{Moment, OutOfMemory};
 use std::alloc::Global;
@@ -20,7 +19,7 @@ use std::alloc::Global;
 const SLACK: u64 = 1_100_000;
 
 // Counts what became of the reply to a datagram.
-fn count_reply(counts: &mut Counts, heard: &Heard)
+fn count_reply(counts: &mut Tally, heard: &Heard)
     requires few { IsFew 1 counts.old }
     ensures grows { CountsGrow 1 counts.old counts.new }
     ensures counted { Counted (reply_sent (reply_in heard.now)) (reply_failed (reply_in heard.now))
@@ -45,7 +44,7 @@ pub(crate) fn take<P: Port, C: Clock>(
     clock: &mut C,
     from: u32,
     octets: &[u8],
-    counts: &mut Counts,
+    counts: &mut Tally,
 ) -> Result<(), OutOfMemory>
     requires few { IsFew 1 counts.old }
     ensures grows { CountsGrow 1 counts.old counts.new }
@@ -76,7 +75,7 @@ pub(crate) fn tick<P: Port, C: Clock>(
     slave: &mut Slave<P>,
     event: &mut P,
     clock: &mut C,
-    counts: &mut Counts,
+    counts: &mut Tally,
 ) -> Option<u32>
     requires few { IsFew (2 ^ 64) counts.old }
     ensures grows { CountsGrow (2 ^ 64) counts.old counts.new }
@@ -104,7 +103,7 @@ pub(crate) fn tick<P: Port, C: Clock>(
 }
 
 /// The slave stops, and sends each master the CANCELs of its live grants.
-pub(crate) fn stop<P: Port, C: Clock>(slave: &mut Slave<P>, clock: &mut C, counts: &mut Counts)
+pub(crate) fn stop<P: Port, C: Clock>(slave: &mut Slave<P>, clock: &mut C, counts: &mut Tally)
     requires few { IsFew (2 ^ 64) counts.old }
     ensures waiting { P.waiting (seen_by held slave.new).port ≡ P.waiting
         (seen_by held slave.old).port }

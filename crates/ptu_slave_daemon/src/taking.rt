@@ -4,9 +4,8 @@ ghost use Rattle.std.specs.Prelude.{◌≡◌, map, IfOk, OnOk};
 ghost use Rattle.ptu_slave_daemon.specs.Running.{CountsGrow, IsFew, RoundTook, TookEvent, TookGeneral, TookOne};
 ghost use Rattle.ptu_slave.specs.SeenBy.{seen_by};
 
-use crate::counts::Counts;
 use crate::steps::take;
-use ptu_outside::{Clock, Port};
+use ptu_outside::{Clock, Port, Tally};
 use ptu_slave::Slave;
 use ptu_units::OutOfMemory;
 use ptu_units::sizes::LONGEST_DATAGRAM;
@@ -21,7 +20,7 @@ fn take_general<P: Port, C: Clock>(
     alloc: Global,
     slave: &mut Slave<P>,
     clock: &mut C,
-    counts: &mut Counts,
+    counts: &mut Tally,
 ) -> Result<bool, OutOfMemory>
     requires few { IsFew 1 counts.old }
     ensures grows { CountsGrow 1 counts.old counts.new }
@@ -49,7 +48,7 @@ fn take_event<P: Port, C: Clock>(
     slave: &mut Slave<P>,
     event: &mut P,
     clock: &mut C,
-    counts: &mut Counts,
+    counts: &mut Tally,
 ) -> Result<bool, OutOfMemory>
     requires few { IsFew 1 counts.old }
     ensures grows { CountsGrow 1 counts.old counts.new }
@@ -82,7 +81,7 @@ pub(crate) fn take_all_general<P: Port, C: Clock>(
     alloc: Global,
     slave: &mut Slave<P>,
     clock: &mut C,
-    counts: &mut Counts,
+    counts: &mut Tally,
 ) -> Result<(), OutOfMemory>
     requires few { IsFew 64 counts.old }
     ensures grows { CountsGrow 64 counts.old counts.new }
@@ -107,7 +106,7 @@ pub(crate) fn take_all_event<P: Port, C: Clock>(
     slave: &mut Slave<P>,
     event: &mut P,
     clock: &mut C,
-    counts: &mut Counts,
+    counts: &mut Tally,
 ) -> Result<(), OutOfMemory>
     requires few { IsFew 64 counts.old }
     ensures grows { CountsGrow 64 counts.old counts.new }

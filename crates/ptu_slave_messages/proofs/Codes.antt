@@ -13,7 +13,8 @@ use Rattle.ptu_messages.specs.declared.message.Message.{Message}
 use Rattle.ptu_messages.specs.Message.{IsBodyOf, SpellsBody, SpellsMessage, least_length}
 use Rattle.ptu_messages.specs.{MessageFault.{IsSignaling}, Tlvs.{AreSpelled}}
 use Rattle.ptu_record.specs.declared.wants.Wants.{Wants}
-use Rattle.ptu_slave_messages.specs.Heard.{FitsReply, HasTlvs, ack_by, content_of}
+use Rattle.ptu_slave_messages.specs.Heard.{FitsReply, ack_by, content_of}
+use Rattle.ptu_messages.specs.Message.{HasTlvs}
 use Rattle.ptu_slave_messages.specs.Sending.{cancel_of, request_of}
 
 code_fits : (k : Kind) → code_of k < 16

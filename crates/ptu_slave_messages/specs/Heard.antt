@@ -112,11 +112,6 @@ ack_by v = None
 abbrev pub acks_of : List Tlv → List Tlv
 acks_of tlvs = filter_map ack_by tlvs
 
--- it is the body of a Signaling
-abbrev pub HasTlvs : Body → Type 0
-HasTlvs (body.Signaling target tlvs) = ⊤
-HasTlvs b = ⊥
-
 -- they fit a Signaling, and can be sent
 abbrev pub FitsReply : Content → Type 0
 FitsReply (content.Signals list acks) = (length acks ≤ 32) × All IsSendable acks

@@ -1,10 +1,10 @@
 //! A datagram as a slave receives it.
 
 ghost use Rattle.std.specs.Prelude.{◌≡◌, ℕ, IfOk, IsErr};
-ghost use Rattle.ptu_messages.specs.{Message.{SpellsMessage}, MessageFault.{IsSignaling}};
+ghost use Rattle.ptu_messages.specs.{Message.{HasTlvs, SpellsMessage}, MessageFault.{IsSignaling}};
 ghost use Rattle.ptu_messages.specs.{Reading.{message_in}, declared.message.Body.{Body}};
 ghost use Rattle.ptu_record.specs.Step.{wanted_kind};
-ghost use Rattle.ptu_slave_messages.specs.Heard.{FitsReply, HasTlvs, ack_by, acks_of, content_of, grant_signal, signal_by, signals_of, taken_or_not};
+ghost use Rattle.ptu_slave_messages.specs.Heard.{FitsReply, ack_by, acks_of, content_of, grant_signal, signal_by, signals_of, taken_or_not};
 ghost use Rattle.ptu_slave_messages.specs.Reception.{reception};
 
 use crate::content::{Accepted, Content};

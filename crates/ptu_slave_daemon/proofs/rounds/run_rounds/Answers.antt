@@ -1,7 +1,6 @@
 use Rattle.std.proofs.Common.{[], ◌∷◌, ◌++◌, ◌+◌, ◌≡◌, ◌∙◌, None, ap, arith, refl, sym}
 use Rattle.std.proofs.lemmas.Result.{err_from_is_err_and}
 use Rattle.ptu_outside.proofs.Putting.{HasPut-none, HasPutPart-whole}
-use Rattle.ptu_slave_daemon.specs.declared.counts.Counts.{Counts}
 use Rattle.ptu_slave_daemon.specs.{Happenings.{Selection, record_by_happenings}, Lines.{changes}}
 use Rattle.ptu_slave_daemon.proofs.OneRound.{done_more, done_none}
 use Rattle.ptu_slave_daemon.proofs.Written.{part_of_selection, said_after-push, selection_behind}
@@ -9,8 +8,8 @@ use Rattle.ptu_slave_daemon.proofs.rounds.run_rounds.Goals as goal
 
 pub loop-before-init : goal.loop-before-init
 loop-before-init g c =
-    let none : c.new-counts.result.sent ≡ 0 = ap (λ (k : Counts). k.sent) c.new-counts.ensures in
-    let none_failed : c.new-counts.result.failed ≡ 0 = ap (λ (k : Counts). k.failed) c.new-counts.ensures in
+    let none : c.default-counts.result.sent ≡ 0 = c.default-counts.ensures.0 in
+    let none_failed : c.default-counts.result.failed ≡ 0 = c.default-counts.ensures.1 in
     record {
       few = (omega (arith, none), omega (arith, none_failed));
       sent = refl;

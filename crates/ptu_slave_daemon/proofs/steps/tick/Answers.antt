@@ -1,6 +1,7 @@
 use Rattle.std.proofs.Common.{[], ◌∷◌, ap, refl, ◌∙◌}
 use Rattle.ptu_slave.specs.Seen.{Seen, seen}
-use Rattle.ptu_slave_daemon.specs.{declared.counts.Counts.{Counts}, Happenings.{Ticks}}
+use Rattle.ptu_slave_daemon.specs.Happenings.{Ticks}
+use Rattle.ptu_outside.specs.declared.tally.Tally.{Tally}
 use Rattle.ptu_slave_daemon.specs.Running.{sees}
 use Rattle.ptu_slave_daemon.proofs.{Events.{ran_ticked}, Ports.{port_stated}, Runs.{ran_view}}
 use Rattle.ptu_slave_daemon.proofs.Times.{timed_one}
@@ -12,7 +13,7 @@ returns-clause-ran g c = λ node L round h.
       c.tick-ticked.result.sent,
       c.tick-ticked.result.failed,
       Ticks round c.now-at.result ∷ [],
-      (ap (λ (k : Counts). k.sent) c.add.ensures, ap (λ (k : Counts). k.failed) c.add.ensures),
+      (ap (λ (k : Tally). k.sent) c.add.ensures, ap (λ (k : Tally). k.failed) c.add.ensures),
       ran_view g.P.Port.counts_once node L _
           (sees g.P.Port g.C.Clock (seen (λ j. (goal.Judge-dyn g (j.vtable, j.value)).Judge.held j.value) c.tick-ticked.new.self) c.now-at.new.self)
           _ _ _ _ _ _ _ (ap (λ (s : Seen _ _). s.kept) unchanged) (ap (λ (s : Seen _ _). s.judges) unchanged)

@@ -1,5 +1,5 @@
 use Rattle.std.proofs.Common.{[], ◌∷◌, refl, ap, ◌∙◌, sym, take, add-zero, ◌+◌}
-use Rattle.ptu_slave_daemon.specs.declared.counts.Counts.{Counts}
+use Rattle.ptu_outside.specs.declared.tally.Tally.{Tally}
 use Rattle.ptu_slave_daemon.proofs.Arrived.{counted_none, none_came, none_received, one_came, took_none}
 use Rattle.ptu_slave_daemon.proofs.Ports.{failed_none, failed_once}
 use Rattle.ptu_slave_daemon.proofs.taking.take_event.Goals as goal
@@ -37,7 +37,7 @@ returns-in-Err-clause-took g c = λ node L h. (
   0,
   0,
   1,
-  (ap (λ (k : Counts). k.sent) c.add.ensures, ap (λ (k : Counts). k.failed) c.add.ensures),
+  (ap (λ (k : Tally). k.sent) c.add.ensures, ap (λ (k : Tally). k.failed) c.add.ensures),
   failed_once g.P.Port.counts_once _ _ c.in-Err.ensures.risen c.in-Err.ensures.once c.receive.ensures.no_fall,
   none_received _ _ _ _ c.in-Err.ensures.kept c.in-Err.ensures.risen,
   took_none g.P.Port.counts_once node L _ _ 0 h refl refl refl refl (failed_none g.P.Port.counts_once _ _ refl),

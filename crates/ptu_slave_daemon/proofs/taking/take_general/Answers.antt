@@ -1,7 +1,8 @@
 use Rattle.std.proofs.Common.{[], ◌∷◌, refl, ap, sym, subst, take}
 use Rattle.ptu_outside.specs.Telling.{IfTold, rest_told}
 use Rattle.ptu_slave.specs.{Seen.{Seen}, Seen.{seen}}
-use Rattle.ptu_slave_daemon.specs.{Running.{Stands}, declared.counts.Counts.{Counts}}
+use Rattle.ptu_slave_daemon.specs.Running.{Stands}
+use Rattle.ptu_outside.specs.declared.tally.Tally.{Tally}
 use Rattle.ptu_slave_daemon.proofs.Arrived.{counted_none, none_came, none_received, one_came, took_none}
 use Rattle.ptu_slave_daemon.proofs.{Ports.{failed_none, failed_once}, Runs.{ran_from}}
 use Rattle.ptu_slave_daemon.proofs.taking.take_general.Goals as goal
@@ -37,7 +38,7 @@ returns-in-Err-clause-took g c = λ node L h. (
   0,
   1,
   1,
-  (ap (λ (k : Counts). k.sent) c.add.ensures, ap (λ (k : Counts). k.failed) c.add.ensures),
+  (ap (λ (k : Tally). k.sent) c.add.ensures, ap (λ (k : Tally). k.failed) c.add.ensures),
   none_received _ _ _ _ c.in-Err.ensures.kept c.in-Err.ensures.risen,
   took_none g.P.Port.counts_once node L _ _ 1 h (ap (λ (s : Seen _ _). s.kept) c.receive.ensures.rest_is) (ap (λ (s : Seen _ _). s.judges) c.receive.ensures.rest_is) c.receive.ensures.sent refl (failed_once g.P.Port.counts_once _ _ c.in-Err.ensures.risen c.in-Err.ensures.once c.receive.ensures.no_fall),
 )
