@@ -21,10 +21,10 @@ pub(crate) const TLVS_AT: usize = SYNC_LENGTH;
 /// The lengthField of a REQUEST_UNICAST_TRANSMISSION, in octets (IEEE 1588-2019 clause 16.1.4.1).
 pub(crate) const REQUEST_LENGTH: u16 = 6;
 
-/// That of a GRANT_UNICAST_TRANSMISSION.
+/// The lengthField of a GRANT_UNICAST_TRANSMISSION.
 pub(crate) const GRANT_LENGTH: u16 = 8;
 
-/// That of a CANCEL_UNICAST_TRANSMISSION and of its acknowledgement.
+/// The lengthField of a CANCEL_UNICAST_TRANSMISSION and of its acknowledgement.
 pub(crate) const KIND_LENGTH: u16 = 2;
 
 /// What is asked for, or granted: messages of a kind, how often and for how long
