@@ -156,11 +156,12 @@ pub fn decide_all<P: Port>(
     let at = t.latest(book.now().latest(moment_in(s0, s1, s2, s3, client)));
     sweep_all(s0, s1, s2, s3, book, at);
     let claim = Claim {
+        config,
         at,
         client: *client,
         wanted,
     };
-    decide_among(s0, s1, s2, s3, book, config, &claim)
+    decide_among(s0, s1, s2, s3, book, &claim)
 }
 
 // The moment of the client's table among the four.
@@ -182,9 +183,11 @@ fn moment_in<P: Port>(
     }
 }
 
-// An ask within the profile: when it is decided, whose it is, and what it is for.
+// An ask within the profile: by which settings and when it is decided, whose it is, and what it is
+// for.
 #[derive(Drop)]
-struct Claim {
+struct Claim<'a> {
+    config: &'a GmConfig,
     at: Moment,
     client: Client,
     wanted: Wanted,
@@ -197,8 +200,7 @@ fn decide_among<P: Port>(
     s2: &mut Shard<P>,
     s3: &mut Shard<P>,
     book: &mut Book,
-    config: &GmConfig,
-    claim: &Claim,
+    claim: &Claim<'_>,
 ) -> Verdict
     requires room { (table_of_client claim.now.client ≡ 0 → 0 < s0.old.spare)
         × (table_of_client claim.now.client ≡ 1 → 0 < s1.old.spare)
@@ -209,7 +211,8 @@ fn decide_among<P: Port>(
         × (table_of_client claim.now.client ≡ 2 → s2.old.moment ≡ claim.now.at)
         × (table_of_client claim.now.client ≡ 3 → s3.old.moment ≡ claim.now.at) }
     requires sum { book.old.total ≡ shares (four s0.old s1.old s2.old s3.old) }
-    ensures answer { verdict_of result ≡ verdict_on (config_of book.old.capacity config.now)
+    ensures answer { verdict_of result ≡ verdict_on
+        (config_of book.old.capacity claim.now.config.now)
         (book.old.total - kept_rate claim.now.client claim.now.wanted.kind
         (rows_of_lent (table_of_client claim.now.client) (four s0.old s1.old s2.old s3.old)))
         claim.now.at claim.now.wanted.kind claim.now.wanted.log claim.now.wanted.seconds }
@@ -229,15 +232,21 @@ fn decide_among<P: Port>(
         EachStandsAt b (four s0.old s1.old s2.old s3.old) history → b ≤ claim.now.at →
         EachStandsAt claim.now.at (four s0.new s1.new s2.new s3.new)
         (history ++ verdict_records claim.now.at claim.now.client (verdict_of result)) }
-    ensures t0 { IsDecidedIn 0 claim.now.at claim.now.client result s0.old s0.new }
-    ensures t1 { IsDecidedIn 1 claim.now.at claim.now.client result s1.old s1.new }
-    ensures t2 { IsDecidedIn 2 claim.now.at claim.now.client result s2.old s2.new }
-    ensures t3 { IsDecidedIn 3 claim.now.at claim.now.client result s3.old s3.new }
+    ensures each { IsDecidedIn 0 claim.now.at claim.now.client result s0.old s0.new
+        × IsDecidedIn 1 claim.now.at claim.now.client result s1.old s1.new
+        × IsDecidedIn 2 claim.now.at claim.now.client result s2.old s2.new
+        × IsDecidedIn 3 claim.now.at claim.now.client result s3.old s3.new }
 {
-    match table_of(&claim.client) {
-        0 => decide_swept(s0, book, config, claim.at, &claim.client, claim.wanted),
-        1 => decide_swept(s1, book, config, claim.at, &claim.client, claim.wanted),
-        2 => decide_swept(s2, book, config, claim.at, &claim.client, claim.wanted),
-        _ => decide_swept(s3, book, config, claim.at, &claim.client, claim.wanted),
+    let Claim {
+        config,
+        at,
+        client,
+        wanted,
+    } = claim;
+    match table_of(client) {
+        0 => decide_swept(s0, book, config, *at, client, *wanted),
+        1 => decide_swept(s1, book, config, *at, client, *wanted),
+        2 => decide_swept(s2, book, config, *at, client, *wanted),
+        _ => decide_swept(s3, book, config, *at, client, *wanted),
     }
 }

@@ -6,10 +6,10 @@ ghost use Rattle.ptu_admit.specs.Verdict.{ask_of, cause_of};
 
 use crate::verdict::Outside;
 use ptu_messages::Ask;
-use ptu_units::{Kind, Log};
+use ptu_units::{GrantSeconds, Kind, Log};
 
 /// The shortest duration that may be asked for, in seconds.
-const SHORTEST_DURATION: u32 = 60;
+const SHORTEST_DURATION: u32 = GrantSeconds::LEAST;
 
 /// What an ask within the profile is for: a kind at a logarithm, for so many seconds.
 #[derive(Clone, Copy)]

@@ -75,10 +75,11 @@ pub fn resize<P: Port>(
     let shedding = Shedding {
         at,
         capacity: capacity.get(),
+        order,
         list,
     };
     sweep_all(s0, s1, s2, s3, book, at);
-    let list = shed_above(s0, s1, s2, s3, book, order, shedding);
+    let list = shed_above(s0, s1, s2, s3, book, shedding);
     book.change(capacity, at);
     Ok(Resized {
         at,

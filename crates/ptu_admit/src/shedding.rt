@@ -81,12 +81,23 @@ fn drop_found<P: Port>(
     }
 }
 
-/// A shedding: its moment, the capacity that the rest has to fit, and what was shed so far.
+/// A shedding: its moment, the capacity that the rest has to fit, and room for the order of all
+/// rows and for the list of what is shed.
 #[derive(Drop)]
 pub(crate) struct Shedding {
     pub(crate) at: Moment,
     pub(crate) capacity: u64,
+    pub(crate) order: Vec<Candidate>,
     pub(crate) list: Vec<Shed>,
+}
+
+// A shedding that is under way: the candidates that are left, and what was shed so far.
+#[derive(Drop)]
+struct UnderWay {
+    at: Moment,
+    capacity: u64,
+    newest: Newest,
+    list: Vec<Shed>,
 }
 
 // The row of a candidate in its table, where it is kept.
@@ -145,8 +156,7 @@ fn shed_newest<P: Port>(
     s2: &mut Shard<P>,
     s3: &mut Shard<P>,
     book: &mut Book,
-    newest: &mut Newest,
-    shedding: &mut Shedding,
+    shedding: &mut UnderWay,
 )
     requires sum { book.old.total ≡ shares (four s0.old s1.old s2.old s3.old) }
     requires reached { (s0.old.moment ≡ shedding.old.at) × (s1.old.moment ≡ shedding.old.at)
@@ -155,7 +165,7 @@ fn shed_newest<P: Port>(
         Contains (rows_of_lent j (four s0.old s1.old s2.old s3.old)) row →
         shedding.old.at < row.lease.until }
     requires distinct { AreDistinct s0.old s1.old s2.old s3.old }
-    requires listed { AreListed (four s0.old s1.old s2.old s3.old) newest.old }
+    requires listed { AreListed (four s0.old s1.old s2.old s3.old) shedding.old.newest }
     requires empty { shedding.old.list.items ≡ [] }
     requires room { rows_in (four s0.old s1.old s2.old s3.old) ≤ vec_capacity shedding.old.list }
     ensures t0 { IsThinned s0.old s0.new }
@@ -176,7 +186,7 @@ fn shed_newest<P: Port>(
         (shed_prefix shedding.old.capacity (shed_order history shedding.old.at)) }
 {
     'above: while book.total() > shedding.capacity {
-        let Some(candidate) = newest.pop() else {
+        let Some(candidate) = shedding.newest.pop() else {
             break;
         };
         if let Some(found) = find_row(s0, s1, s2, s3, &candidate) {
@@ -201,7 +211,6 @@ pub(crate) fn shed_above<P: Port>(
     s2: &mut Shard<P>,
     s3: &mut Shard<P>,
     book: &mut Book,
-    order: Vec<Candidate>,
     shedding: Shedding,
 ) -> Vec<Shed>
     requires sum { book.old.total ≡ shares (four s0.old s1.old s2.old s3.old) }
@@ -210,9 +219,9 @@ pub(crate) fn shed_above<P: Port>(
     requires live { (j : ℕ) (row : KeptRow) → j < 4 →
         Contains (rows_of_lent j (four s0.old s1.old s2.old s3.old)) row →
         shedding.at < row.lease.until }
-    requires empty { (order.items ≡ []) × (shedding.list.items ≡ []) }
+    requires empty { (shedding.order.items ≡ []) × (shedding.list.items ≡ []) }
     requires room { shedding.capacity < book.old.total →
-        (rows_in (four s0.old s1.old s2.old s3.old) ≤ vec_capacity order)
+        (rows_in (four s0.old s1.old s2.old s3.old) ≤ vec_capacity shedding.order)
         × (rows_in (four s0.old s1.old s2.old s3.old) ≤ vec_capacity shedding.list) }
     ensures t0 { IsThinned s0.old s0.new }
     ensures t1 { IsThinned s1.old s1.new }
@@ -234,8 +243,13 @@ pub(crate) fn shed_above<P: Port>(
     if book.total() <= shedding.capacity {
         return shedding.list;
     }
-    let mut newest = newest_of(s0, s1, s2, s3, order);
-    let mut shedding = shedding;
-    shed_newest(s0, s1, s2, s3, book, &mut newest, &mut shedding);
-    shedding.list
+    let newest = newest_of(s0, s1, s2, s3, shedding.order);
+    let mut under_way = UnderWay {
+        at: shedding.at,
+        capacity: shedding.capacity,
+        newest,
+        list: shedding.list,
+    };
+    shed_newest(s0, s1, s2, s3, book, &mut under_way);
+    under_way.list
 }

@@ -93,8 +93,8 @@ returns-clause-alone g c =
     let reached : (j : ℕ) → table_of client ≡ j → moment_of_lent j lent ≤ at = λ j own.
     let is : c.moment_in.result ≡ moment_of_lent j lent = c.moment_in.ensures ∙ ap (λ i. moment_of_lent i lent) own in
     omega (arith, is, c.latest-at.ensures, c.latest.ensures) in (
-      alone_asked 0 at c.args.book.now.capacity client c.decide_among.result c.args.s0.now c.sweep_all.new.s0 c.decide_among.new.s0 c.sweep_all.ensures.s0 among.within (reached 0) among.moments.1 among.t0,
-      alone_asked 1 at c.args.book.now.capacity client c.decide_among.result c.args.s1.now c.sweep_all.new.s1 c.decide_among.new.s1 c.sweep_all.ensures.s1 among.within (reached 1) among.moments.2 among.t1,
-      alone_asked 2 at c.args.book.now.capacity client c.decide_among.result c.args.s2.now c.sweep_all.new.s2 c.decide_among.new.s2 c.sweep_all.ensures.s2 among.within (reached 2) among.moments.3 among.t2,
-      alone_asked 3 at c.args.book.now.capacity client c.decide_among.result c.args.s3.now c.sweep_all.new.s3 c.decide_among.new.s3 c.sweep_all.ensures.s3 among.within (reached 3) among.moments.4 among.t3,
+      alone_asked 0 at c.args.book.now.capacity client c.decide_among.result c.args.s0.now c.sweep_all.new.s0 c.decide_among.new.s0 c.sweep_all.ensures.s0 among.within (reached 0) among.moments.1 among.each.0,
+      alone_asked 1 at c.args.book.now.capacity client c.decide_among.result c.args.s1.now c.sweep_all.new.s1 c.decide_among.new.s1 c.sweep_all.ensures.s1 among.within (reached 1) among.moments.2 among.each.1,
+      alone_asked 2 at c.args.book.now.capacity client c.decide_among.result c.args.s2.now c.sweep_all.new.s2 c.decide_among.new.s2 c.sweep_all.ensures.s2 among.within (reached 2) among.moments.3 among.each.2,
+      alone_asked 3 at c.args.book.now.capacity client c.decide_among.result c.args.s3.now c.sweep_all.new.s3 c.decide_among.new.s3 c.sweep_all.ensures.s3 among.within (reached 3) among.moments.4 among.each.3,
     )

@@ -12,16 +12,16 @@ use Rattle.ptu_admit.specs.declared.newest.Found.{Found}
 use Rattle.ptu_admit.proofs.shedding.shed_newest.Goals as goal
 
 pub above-smaller-in-Some-find_row : goal.above-smaller-in-Some-find_row
-above-smaller-in-Some-find_row g c = omega (arith, length_permutation c.above.newest (c.in-Some.candidate ∷ c.pop.new.self) c.in-Some.ensures.taken)
+above-smaller-in-Some-find_row g c = omega (arith, length_permutation c.above.shedding.newest (c.in-Some.candidate ∷ c.pop.new.self) c.in-Some.ensures.taken)
 
 pub above-smaller : goal.above-smaller
-above-smaller g c = omega (arith, length_permutation c.above.newest (c.in-Some.candidate ∷ c.pop.new.self) c.in-Some.ensures.taken)
+above-smaller g c = omega (arith, length_permutation c.above.shedding.newest (c.in-Some.candidate ∷ c.pop.new.self) c.in-Some.ensures.taken)
 
 pub above-preserved : goal.above-preserved
 above-preserved g c = record {
   so_far = c.above.invariant.so_far;
   capacity_is = c.above.invariant.capacity_is;
-  listed = listed_without (four c.above.s0 c.above.s1 c.above.s2 c.above.s3) c.in-Some.candidate c.above.newest c.pop.new.self c.in-Some.ensures.taken c.above.invariant.listed c.in_default-find_row.ensures.none;
+  listed = listed_without (four c.above.s0 c.above.s1 c.above.s2 c.above.s3) c.in-Some.candidate c.above.shedding.newest c.pop.new.self c.in-Some.ensures.taken c.above.invariant.listed c.in_default-find_row.ensures.none;
 }
 
 pub find_row-requires : goal.find_row-requires
@@ -36,10 +36,10 @@ above-preserved-in-Some-find_row g c =
     let lent : List Lent = four c.above.s0 c.above.s1 c.above.s2 c.above.s3 in
     let kept = c.in-Some-find_row.ensures.kept in
     let placed : IsPlaced c.above.s0 c.above.s1 c.above.s2 c.above.s3 found = record { place = kept.0; contained = kept.1 } in
-    let greatest : All (λ o. is_lt (candidate_cmp (candidate_of found) o) ≡ false) c.above.newest =
-    subst (λ z. All (λ o. is_lt (candidate_cmp z o) ≡ false) c.above.newest) (sym kept.2) c.in-Some.ensures.newest in
+    let greatest : All (λ o. is_lt (candidate_cmp (candidate_of found) o) ≡ false) c.above.shedding.newest =
+    subst (λ z. All (λ o. is_lt (candidate_cmp z o) ≡ false) c.above.shedding.newest) (sym kept.2) c.in-Some.ensures.newest in
     let newest : (o : Found) → IsPlaced c.above.s0 c.above.s1 c.above.s2 c.above.s3 o → NotAfter found o =
-    λ o p. first_of lent c.above.newest found o c.above.invariant.listed greatest p.place p.contained in
+    λ o p. first_of lent c.above.shedding.newest found o c.above.invariant.listed greatest p.place p.contained in
     let distinct : FourDistinct c.above.s0 c.above.s1 c.above.s2 c.above.s3 =
     four_distinct c.args.s0.now c.args.s1.now c.args.s2.now c.args.s3.now c.above.s0 c.above.s1 c.above.s2 c.above.s3 inv.t0 inv.t1 inv.t2 inv.t3 c.requires.distinct in
     let total_is : c.above.book.total ≡ shares lent = ap (λ (k : KeptBook). k.total) inv.book_is in
@@ -62,8 +62,8 @@ above-preserved-in-Some-find_row g c =
           c.args.book.now c.drop_found.new.book (c.above.shedding.list.items ++ value ∷ []) len (vec_capacity c.push.new.self)) (sym len_is) next);
       capacity_is = c.above.invariant.capacity_is;
       listed = listed_less c.above.s0 c.above.s1 c.above.s2 c.above.s3 c.drop_found.new.s0 c.drop_found.new.s1 c.drop_found.new.s2 c.drop_found.new.s3
-          c.drop_found.ensures.t0 c.drop_found.ensures.t1 c.drop_found.ensures.t2 c.drop_found.ensures.t3 found c.above.newest c.pop.new.self
-          (subst (λ z. IsPermutation c.above.newest (z ∷ c.pop.new.self)) (sym kept.2) c.in-Some.ensures.taken) c.above.invariant.listed c.drop_found.ensures.gone;
+          c.drop_found.ensures.t0 c.drop_found.ensures.t1 c.drop_found.ensures.t2 c.drop_found.ensures.t3 found c.above.shedding.newest c.pop.new.self
+          (subst (λ z. IsPermutation c.above.shedding.newest (z ∷ c.pop.new.self)) (sym kept.2) c.in-Some.ensures.taken) c.above.invariant.listed c.drop_found.ensures.gone;
     }
 
 pub returns-after-above-clause-shed : goal.returns-after-above-clause-shed
