@@ -104,7 +104,8 @@ pub fn run<W: AllocGlobal + Threads + Wait + Sync, S: Source, K: Sink, H: Host>(
     // The whole output of the command that the words ask for was written, and the status says how
     // it ends: where neither side failed and memory was found,
     ensures output { (command : Command)
-        → words_command_of (map (λ w. w.now) words.now) ≡ Some command → IsOfLab command → (input : List ℕ) → S.left source.old ≡ Some input
+        → words_command_of (map (λ w. w.now) words.now) ≡ Some command → IsOfLab command
+        → (input : List ℕ) → S.left source.old ≡ Some input
         → (HasRisen (S.faults source.old) (S.faults source.new) → ⊥)
         → (HasRisen (K.faults sink.old) (K.faults sink.new) → ⊥) → result ≢ OUT_OF_MEMORY
         → HasRun K.written K.handed sink.old sink.new
@@ -112,7 +113,8 @@ pub fn run<W: AllocGlobal + Threads + Wait + Sync, S: Source, K: Sink, H: Host>(
     // and wherever 0 or 65 is answered, whatever the counts did.
     ensures answered { (result ≡ 0) ⊎ (result ≡ BAD_LINE)
         → (command : Command) → words_command_of (map (λ w. w.now) words.now) ≡ Some command
-        → IsOfLab command → (input : List ℕ) → S.left source.old ≡ Some input
+        → IsOfLab command
+        → (input : List ℕ) → S.left source.old ≡ Some input
         → HasRun K.written K.handed sink.old sink.new
         (stock_of stock.flags.items stock.gaps.items) command input (S.left source.new) result }
 
@@ -169,13 +171,15 @@ pub fn run<W: AllocGlobal + Threads + Wait + Sync, S: Source, K: Sink, H: Host>(
     ensures faults { AreFaultsAnswered result (S.faults source.old) (S.faults source.new)
         (K.faults sink.old) (K.faults sink.new) (H.faults host.old) (H.faults host.new) }
     ensures front { (command : Command)
-        → words_command_of (map (λ w. w.now) words.now) ≡ Some command → IsOfLab command → (input : List ℕ) → S.left source.old ≡ Some input
+        → words_command_of (map (λ w. w.now) words.now) ≡ Some command → IsOfLab command
+        → (input : List ℕ) → S.left source.old ≡ Some input
         → HasPutPart K.written K.handed sink.old sink.new
         (output_of (stock_of stock.flags.items stock.gaps.items) command input) }
     // Where nothing failed and nothing is refused, the answer is 0 (with 70 beside it for an
     // audit), or no memory was found.
     ensures complete { (command : Command)
-        → words_command_of (map (λ w. w.now) words.now) ≡ Some command → (input : List ℕ) → S.left source.old ≡ Some input
+        → words_command_of (map (λ w. w.now) words.now) ≡ Some command
+        → (input : List ℕ) → S.left source.old ≡ Some input
         → IsAccepted (stock_of stock.flags.items stock.gaps.items) command input
         → (HasRisen (S.faults source.old) (S.faults source.new) → ⊥)
         → (HasRisen (K.faults sink.old) (K.faults sink.new) → ⊥)

@@ -19,7 +19,7 @@ use Rattle.ptu_requester.proofs.Silence.{stands_silent}
 use Rattle.ptu_slave.specs.Kept.{CountFor, Kept}
 use Rattle.ptu_slave_messages.specs.declared.signal.Signal.{Signal}
 use Rattle.ptu_slave_messages.specs.declared.signal.Signal.TheVariants.{Grant, Denial, Cancel, Ack}
-use Rattle.ptu_slave.specs.{Parts.{signal_entry}, Standing.{Asks, Each}}
+use Rattle.ptu_slave.specs.{Parts.{heard_entry}, Standing.{Asks, Each}}
 use Rattle.ptu_slave.proofs.{Masters.{IsOf, all_append, each_own}, Quiet.{Uncounted, counts_one}}
 
 -- one kind after the other
@@ -186,7 +186,7 @@ plan_entries x m ks number next b d is =
 
 -- ---- what a master said
 
-pub uncounted_signals : (wants : Wants) (x m : ℕ) (signals : List Signal) → AllByRecursion Uncounted (filter_map (signal_entry wants x m) signals)
+pub uncounted_signals : (wants : Wants) (x m : ℕ) (signals : List Signal) → AllByRecursion Uncounted (filter_map (heard_entry wants x m) signals)
 uncounted_signals wants x m [] = tt
 uncounted_signals wants x m (Grant k seconds ∷ signals) = (granted (eqb seconds 0), uncounted_signals wants x m signals)
   where
@@ -196,8 +196,8 @@ uncounted_signals wants x m (Grant k seconds ∷ signals) = (granted (eqb second
 uncounted_signals wants x m (Denial k ∷ signals) = (record { no_signaling = refl; no_delay_req = refl; no_moment = refl }, uncounted_signals wants x m signals)
 uncounted_signals wants x m (Cancel code ∷ signals) = listed (wanted_kind wants code) (uncounted_signals wants x m signals)
   where
-    listed : (o : Option Kind) → AllByRecursion Uncounted (filter_map (signal_entry wants x m) signals)
-        → AllByRecursion Uncounted (cons_option (option_map (Cancelled x m) o) (filter_map (signal_entry wants x m) signals))
+    listed : (o : Option Kind) → AllByRecursion Uncounted (filter_map (heard_entry wants x m) signals)
+        → AllByRecursion Uncounted (cons_option (option_map (Cancelled x m) o) (filter_map (heard_entry wants x m) signals))
     listed None rest = rest
     listed (Some k) rest = (record { no_signaling = refl; no_delay_req = refl; no_moment = refl }, rest)
 uncounted_signals wants x m (Ack code ∷ signals) = uncounted_signals wants x m signals

@@ -17,7 +17,7 @@ use Rattle.ptu_judges.specs.Held.{Held}
 use Rattle.ptu_slave_messages.specs.declared.signal.Signal.{Signal}
 use Rattle.ptu_slave_messages.specs.declared.signal.Signal.TheVariants.{Denial, Grant}
 use Rattle.ptu_slave_messages.specs.Heard.{grant_signal, said_by, signals_of}
-use Rattle.ptu_slave.specs.{Kept.{Kept}, Parts.{signal_entry}}
+use Rattle.ptu_slave.specs.{Kept.{Kept}, Parts.{heard_entry}}
 use Rattle.ptu_slave.specs.Standing.{Asks, Selects, StandsFor, Steps, setup_of}
 use Rattle.ptu_slave.proofs.Quiet.{Untold, asks_kept, judge_kept, selects_kept}
 use Rattle.ptu_slave.proofs.Stepping.{Moves, step_of}
@@ -39,23 +39,23 @@ reply_none x m number [] = refl
 reply_none x m number (code ∷ codes) = refl
 
 -- what is entered of a Signaling is entered of what is told of it
-entered : (x m seconds : ℕ) (k : Kind) (wants : Wants) (b : Bool) → eqb seconds 0 ≡ b → Some (grant_entry x m seconds k) ≡ signal_entry wants x m (grant_signal seconds k)
-entered x m seconds k wants true zero = ap (λ b. Some (cond b (Denied x m k) (Granted x m k seconds))) zero ∙ sym (ap (λ b. signal_entry wants x m (cond b (Denial k) (Grant k seconds))) zero)
+entered : (x m seconds : ℕ) (k : Kind) (wants : Wants) (b : Bool) → eqb seconds 0 ≡ b → Some (grant_entry x m seconds k) ≡ heard_entry wants x m (grant_signal seconds k)
+entered x m seconds k wants true zero = ap (λ b. Some (cond b (Denied x m k) (Granted x m k seconds))) zero ∙ sym (ap (λ b. heard_entry wants x m (cond b (Denial k) (Grant k seconds))) zero)
 entered x m seconds k wants false more =
-    sym (ap (λ b. signal_entry wants x m (cond b (Denial k) (Grant k seconds))) more)
+    sym (ap (λ b. heard_entry wants x m (cond b (Denial k) (Grant k seconds))) more)
 
-signals_enter : (wants : Wants) (x m : ℕ) (tlvs : List Tlv) → filter_map (step.signal_entry wants x m) (filter_map said_by tlvs) ≡ filter_map (signal_entry wants x m) (signals_of wants tlvs)
+signals_enter : (wants : Wants) (x m : ℕ) (tlvs : List Tlv) → filter_map (step.signal_entry wants x m) (filter_map said_by tlvs) ≡ filter_map (heard_entry wants x m) (signals_of wants tlvs)
 signals_enter wants x m [] = refl
 signals_enter wants x m (tlv.Request ask ∷ tlvs) = signals_enter wants x m tlvs
 signals_enter wants x m (tlv.Grant ask invited ∷ tlvs) = by (wanted_kind wants ask.code) (signals_enter wants x m tlvs)
   where
-    by : (o : Option Kind) → filter_map (step.signal_entry wants x m) (filter_map said_by tlvs) ≡ filter_map (signal_entry wants x m) (signals_of wants tlvs)
+    by : (o : Option Kind) → filter_map (step.signal_entry wants x m) (filter_map said_by tlvs) ≡ filter_map (heard_entry wants x m) (signals_of wants tlvs)
         → cons_option (option_map (grant_entry x m ask.seconds) o) (filter_map (step.signal_entry wants x m) (filter_map said_by tlvs))
-        ≡ filter_map (signal_entry wants x m) (cons_option (option_map (grant_signal ask.seconds) o) (signals_of wants tlvs))
+        ≡ filter_map (heard_entry wants x m) (cons_option (option_map (grant_signal ask.seconds) o) (signals_of wants tlvs))
     by None same = same
     by (Some k) same =
         ap (λ w. grant_entry x m ask.seconds k ∷ w) same
-        ∙ ap (λ o. cons_option o (filter_map (signal_entry wants x m) (signals_of wants tlvs))) (entered x m ask.seconds k wants (eqb ask.seconds 0) refl)
+        ∙ ap (λ o. cons_option o (filter_map (heard_entry wants x m) (signals_of wants tlvs))) (entered x m ask.seconds k wants (eqb ask.seconds 0) refl)
 signals_enter wants x m (tlv.Cancel code ∷ tlvs) = ap (cons_option (option_map (Cancelled x m) (wanted_kind wants code))) (signals_enter wants x m tlvs)
 signals_enter wants x m (tlv.Ack code ∷ tlvs) = signals_enter wants x m tlvs
 signals_enter wants x m (tlv.Other t n ∷ tlvs) = signals_enter wants x m tlvs
@@ -95,7 +95,7 @@ module _ (setup : SlaveSetup) (L : Record) (x m number : ℕ) (signals : List st
       F = filter_map (step.signal_entry setup.wants x m) signals
 
 pub signalled : (openings : List (Option Rule)) (old new : Kept) (judges : List Held) (L : Record) (t at m number : ℕ) (tlvs : List Tlv) → at ≡ max t old.moment → Moves old new at → new.stopped ≡ old.stopped
-    → ((told : Record) → Asks old told L → Asks new (told ++ filter_map (signal_entry old.config.wants at m) (signals_of old.config.wants tlvs)) (L ++ filter_map (signal_entry old.config.wants at m) (signals_of old.config.wants tlvs)))
+    → ((told : Record) → Asks old told L → Asks new (told ++ filter_map (heard_entry old.config.wants at m) (signals_of old.config.wants tlvs)) (L ++ filter_map (heard_entry old.config.wants at m) (signals_of old.config.wants tlvs)))
     → Selects new L → StandsFor openings old judges L → Steps openings old new judges L t (TakeSignaling m number (filter_map said_by tlvs))
 signalled openings old new judges L t at m number tlvs is moves still asks selects h =
     (step_of openings old new judges judges L t at (TakeSignaling m number signals) [] h is moves still refl (record {
@@ -116,7 +116,7 @@ signalled openings old new judges L t at m number tlvs is moves still asks selec
     E = entries_by setup [] L at (TakeSignaling m number signals)
 
     F : Record
-    F = filter_map (signal_entry old.config.wants at m) (signals_of old.config.wants tlvs)
+    F = filter_map (heard_entry old.config.wants at m) (signals_of old.config.wants tlvs)
 
     whole : E ≡ or_event at F
     whole = entries_are setup L at m number signals ∙ ap (or_event at) (signals_enter old.config.wants at m tlvs)
@@ -124,7 +124,7 @@ signalled openings old new judges L t at m number tlvs is moves still asks selec
 -- by what its parts do
 pub heard : (openings : List (Option Rule)) (old mid new : Kept) (judges : List Held) (L : Record) (t at m number : ℕ) (tlvs : List Tlv) (said : List Signal) → at ≡ max t old.moment
     → mid ≡ record old { moment = at } → new ≡ record mid { requester = new.requester; counters = new.counters } → said ≡ signals_of old.config.wants tlvs
-    → ((told M : Record) → Asks mid told M → Asks new (told ++ filter_map (signal_entry mid.config.wants at m) said) (M ++ filter_map (signal_entry mid.config.wants at m) said))
+    → ((told M : Record) → Asks mid told M → Asks new (told ++ filter_map (heard_entry mid.config.wants at m) said) (M ++ filter_map (heard_entry mid.config.wants at m) said))
     → StandsFor openings old judges L → Steps openings old new judges L t (TakeSignaling m number (filter_map said_by tlvs))
 heard openings old mid new judges L t at m number tlvs said is first second are asks h =
     signalled openings old new judges L t at m number tlvs is
@@ -141,5 +141,5 @@ heard openings old mid new judges L t at m number tlvs said is first second are 
     config : new.config ≡ old.config
     config = ap (λ (k : Kept). k.config) second ∙ ap (λ (k : Kept). k.config) first
 
-    same : filter_map (signal_entry mid.config.wants at m) said ≡ filter_map (signal_entry old.config.wants at m) (signals_of old.config.wants tlvs)
-    same = ap (λ (k : Kept). filter_map (signal_entry k.config.wants at m) said) first ∙ ap (filter_map (signal_entry old.config.wants at m)) are
+    same : filter_map (heard_entry mid.config.wants at m) said ≡ filter_map (heard_entry old.config.wants at m) (signals_of old.config.wants tlvs)
+    same = ap (λ (k : Kept). filter_map (heard_entry k.config.wants at m) said) first ∙ ap (filter_map (heard_entry old.config.wants at m)) are

@@ -23,11 +23,11 @@ use Rattle.ptu_slave.specs.{Kept.{Kept}, Standing.{Asks, Judge, Selects}}
 -- ---- a Signaling
 
 -- what is entered of what a master said
-abbrev pub signal_entry : Wants → ℕ → ℕ → Signal → Option Entry
-signal_entry wants x m (Grant k seconds) = Some (grant_entry x m seconds k)
-signal_entry wants x m (Denial k) = Some (grant_entry x m 0 k)
-signal_entry wants x m (Cancel code) = option_map (Cancelled x m) (wanted_kind wants code)
-signal_entry wants x m (Ack code) = None
+abbrev pub heard_entry : Wants → ℕ → ℕ → Signal → Option Entry
+heard_entry wants x m (Grant k seconds) = Some (grant_entry x m seconds k)
+heard_entry wants x m (Denial k) = Some (grant_entry x m 0 k)
+heard_entry wants x m (Cancel code) = option_map (Cancelled x m) (wanted_kind wants code)
+heard_entry wants x m (Ack code) = None
 
 -- what is entered of a kind that a master is sent
 abbrev pub kind_entry : KindEntry → ℕ → ℕ → Kind → Entry

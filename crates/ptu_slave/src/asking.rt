@@ -6,7 +6,7 @@ ghost use Rattle.ptu_record.specs.{Lists.{maximum}, Record.{Record, record_of}};
 ghost use Rattle.ptu_record.specs.{Grants.{live_kinds}, Tick.{is_probe_due}};
 ghost use Rattle.ptu_requester.specs.Requester.{Enters, StandsFor};
 ghost use Rattle.ptu_slave_messages.specs.Sending.{kinds_in};
-ghost use Rattle.ptu_slave.specs.{Kept.{CountFor}, Parts.{kind_entry, signal_entry}};
+ghost use Rattle.ptu_slave.specs.{Kept.{CountFor}, Parts.{heard_entry, kind_entry}};
 
 use crate::counters::Counters;
 use ptu_record::Wants;
@@ -137,7 +137,7 @@ pub(crate) fn live(requester: &Requester, at: Moment, master: usize) -> Kinds
 fn enter(requester: &mut Requester, wants: &Wants, at: Moment, master: usize, signal: Signal)
     requires { master < length requester.old.masters }
     ensures entered { Enters requester.old requester.new
-        (option_to_list (signal_entry wants.now at master signal)) }
+        (option_to_list (heard_entry wants.now at master signal)) }
     ensures wants { requester.new.wants ≡ requester.old.wants }
     ensures masters { length requester.new.masters ≡ length requester.old.masters }
 {
@@ -163,7 +163,7 @@ pub(crate) fn enter_each(
 )
     requires { master < length requester.old.masters }
     ensures entered { Enters requester.old requester.new
-        (filter_map (signal_entry wants.now at master) signals.now) }
+        (filter_map (heard_entry wants.now at master) signals.now) }
     ensures wants { requester.new.wants ≡ requester.old.wants }
     ensures masters { length requester.new.masters ≡ length requester.old.masters }
 {

@@ -11,7 +11,7 @@ ghost use Rattle.ptu_profile.specs.Slave.{AreMasters, address_of, priorities, ti
 ghost use Rattle.ptu_requester.specs.Due as due;
 ghost use Rattle.ptu_select.specs.Selecting.{SelectsBy};
 ghost use Rattle.ptu_slave_messages.specs.Sending.{kinds_in, stop_plan, tick_plan};
-ghost use Rattle.ptu_slave.specs.{Kept.{CountFor, Kept}, Parts.{cancels_by, news_entry, signal_entry}};
+ghost use Rattle.ptu_slave.specs.{Kept.{CountFor, Kept}, Parts.{cancels_by, heard_entry, news_entry}};
 ghost use Rattle.ptu_slave.specs.Standing.{Asks, Selects, Shows};
 
 use crate::asking::{KindEntry, enter_each, enter_kinds, is_probe_due, live, probe_due_from};
@@ -234,7 +234,7 @@ impl Core {
     pub(crate) fn hear(&mut self, at: Moment, master: usize, signals: &[Signal])
         requires { master < length self.old.masters }
         ensures asks { (told L : Record) → Asks self.old told L →
-            let entries = filter_map (signal_entry self.old.config.wants at master) signals.now in
+            let entries = filter_map (heard_entry self.old.config.wants at master) signals.now in
             Asks self.new (told ++ entries) (L ++ entries) }
         ensures rest { self.new ≡ record self.old {
           requester = self.new.requester;

@@ -5,7 +5,7 @@ use Rattle.ptu_record.proofs.ListLaws.{filter_map-push}
 use Rattle.ptu_requester.specs.Requester.{StandsFor}
 use Rattle.ptu_units.specs.declared.kind.Kind.TheVariants.{Announce}
 use Rattle.ptu_slave_messages.specs.declared.signal.{Signal.{Signal}, Signal.TheVariants.{Grant}}
-use Rattle.ptu_slave.specs.Parts.{signal_entry}
+use Rattle.ptu_slave.specs.Parts.{heard_entry}
 use Rattle.ptu_slave.proofs.asking.enter_each.Goals as goal
 
 abbrev none : Signal
@@ -13,7 +13,7 @@ none = Grant Announce 0
 
 pub loop-signal-preserved : goal.loop-signal-preserved
 loop-signal-preserved c =
-    let entry = signal_entry c.args.wants.now c.args.at c.args.master in
+    let entry = heard_entry c.args.wants.now c.args.at c.args.master in
     let before = take c.loop-signal.signal-index c.args.signals.now in
     record {
       entered = λ L h. subst (StandsFor c.enter.new.requester)
