@@ -1,11 +1,11 @@
 //! A datagram as a slave receives it.
 
-ghost use Rattle.std.specs.Prelude.{◌≡◌, ℕ, IfOk, IsErr};
+ghost use Rattle.std.specs.Prelude.{◌≡◌, ℕ, false, IfOk, IsErr};
 ghost use Rattle.ptu_messages.specs.{Message.{HasTlvs, SpellsMessage}, MessageFault.{IsSignaling}};
 ghost use Rattle.ptu_messages.specs.{Reading.{message_in}, declared.message.Body.{Body}};
 ghost use Rattle.ptu_record.specs.Step.{wanted_kind};
 ghost use Rattle.ptu_slave_messages.specs.Heard.{FitsReply, ack_by, acks_of, content_of, grant_signal, signal_by, signals_of, taken_or_not};
-ghost use Rattle.ptu_slave_messages.specs.Reception.{reception};
+ghost use Rattle.ptu_slave_messages.specs.Reception.{is_delay_req, is_unknown, reception};
 
 use crate::content::{Accepted, Content};
 use crate::reason::SlaveReason;
@@ -91,9 +91,10 @@ fn acks(alloc: Global, tlvs: &[Tlv]) -> Result<Vec<Tlv>, AllocError>
     tlvs.iter().filter_map(ack).collect(alloc)
 }
 
-// What is kept of a body. Of a Delay_Req and of a message of another type it is never asked:
-// `sender` has refused them before.
+// What is kept of a body, which is one that a slave takes.
 fn content(alloc: Global, wants: &Wants, body: &Body) -> Result<Content, OutOfMemory>
+    requires known { is_unknown body.now ≡ false }
+    requires taken { is_delay_req body.now ≡ false }
     ensures content { IfOk result (λ content. content ≡ content_of wants.now body.now) }
     ensures memory { IsErr result → HasTlvs body.now }
 {
@@ -106,7 +107,8 @@ fn content(alloc: Global, wants: &Wants, body: &Body) -> Result<Content, OutOfMe
             let acks = acks(alloc, tlvs.list())?;
             Content::Signals(SignalList::new(list), TlvList::new(acks))
         }
-        Body::FollowUp(_) | Body::DelayReq(_) | Body::Ignored => Content::FollowUp,
+        Body::FollowUp(_) => Content::FollowUp,
+        Body::DelayReq(_) | Body::Ignored => unreachable!(),
     })
 }
 

@@ -1,6 +1,6 @@
 //! Which messages a slave takes, and why it ignores the others.
 
-ghost use Rattle.std.specs.Prelude.{◌≡◌};
+ghost use Rattle.std.specs.Prelude.{◌≡◌, false, IfOk};
 ghost use Rattle.ptu_profile.specs.Slave.{place_of};
 ghost use Rattle.ptu_slave_messages.specs.Reception.{is_delay_req, is_for, is_unknown, sender_of};
 
@@ -47,7 +47,9 @@ pub(crate) fn sender(
     from: u32,
     message: &Message,
 ) -> Result<usize, SlaveReason>
-    ensures { result ≡ sender_of config.now masters.now from message.now }
+    ensures sender { result ≡ sender_of config.now masters.now from message.now }
+    ensures known { IfOk result (λ _. is_unknown message.now.body ≡ false) }
+    ensures taken { IfOk result (λ _. is_delay_req message.now.body ≡ false) }
 {
     if is_of_unknown_type(&message.body) {
         return Err(SlaveReason::UnknownType(message.header.message_type));
