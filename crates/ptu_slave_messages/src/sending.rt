@@ -18,7 +18,7 @@ use ptu_messages::{PortIdentity, Tlv, write_fixed, write_signaling};
 use ptu_outside::{Channel, Port, Reply, Sends, hand};
 use ptu_profile::{ALL_ONES, SlaveConfig};
 use ptu_units::message_types::SIGNALING;
-use ptu_units::sizes::LONGEST_SIGNALING;
+use ptu_units::sizes::{ANNOUNCE_LENGTH, LONGEST_SIGNALING};
 
 // Hands a Signaling with these TLVs to the port.
 fn send_signaling<P: Port>(
@@ -82,7 +82,7 @@ fn send_delay_req<P: Port>(
     let Some(number) = number else {
         return Sends::none();
     };
-    let mut octets = [0; 64];
+    let mut octets = [0; ANNOUNCE_LENGTH];
     let size = write_fixed(&delay_req(config, number), &mut octets);
     Sends::of(hand(port, ip, Channel::Event, &octets[..size]))
 }
