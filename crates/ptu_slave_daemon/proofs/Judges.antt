@@ -1,7 +1,7 @@
 -- The masters and judges of a slave that settings open.
-use Rattle.std.proofs.Common.{◌≡◌, ◌≢◌, ◌∙◌, ℕ, zero, suc, ◌+◌, ◌<◌, ◌≤◌, ◌++◌, Bool, true, false, not, cond, ◌&&◌, ◌||◌, eq-eqb, add-one, List, [], ◌∷◌, map, length, drop, take, get_or, Some, refl, sym, ap, ap₂, subst, arith}
+use Rattle.std.proofs.Common.{◌≡◌, ◌≢◌, ◌∙◌, ℕ, zero, suc, ◌+◌, ◌<◌, ◌≤◌, ◌++◌, Bool, true, false, not, cond, ◌&&◌, ◌||◌, eq-eqb, add-one, List, [], ◌∷◌, map, length, drop, take, get_or, Option, None, Some, refl, sym, ap, ap₂, subst, arith}
 use Rattle.std.specs.List.{All, AllByRecursion, AllPairs, count_by, list_any}
-use Rattle.std.specs.Prelude.{IsSome, nat_le, ◌==◌}
+use Rattle.std.specs.{Prelude.{IsSome, nat_le, ◌==◌}, Option.{MatchOption}}
 use Rattle.std.proofs.lemmas.{Bool.{false≢true}, Bool.Decides.{nat_tests}}
 use Rattle.std.proofs.{lemmas.List.{map-append, take_more}, Math.Seq.{drop-cons}}
 use Rattle.std.proofs.lemmas.List.{Kept.{AllPairs-cons}, Elements.{All-from_recursion}}
@@ -61,6 +61,11 @@ masters_are settings is =
     }
 
 -- ---- the stock
+
+-- where there is one it is taken
+pub one_there : {A N : Type 0} {Holds : A → Type 0} (found : Option A) → MatchOption found N Holds → (N → ⊥) → IsSome found
+one_there None none some = absurd (some none)
+one_there (Some judge) held some = refl
 
 -- so many judges are enough for these masters
 pub record Enough (masters : List MasterSetting) (flags gaps : ℕ) : Type 0 where

@@ -23,4 +23,4 @@ pub returns-clause-stands : goal.returns-clause-stands
 returns-clause-stands g c =
     opened_at (λ j. (goal.Judge-dyn g (j.vtable, j.value)).Judge.held j.value) c.args.settings.now c.in_ok-judges.judges.items (seen (λ j. (goal.Judge-dyn g (j.vtable, j.value)).Judge.held j.value) c.in_ok-slave.slave).judges (seen (λ j. (goal.Judge-dyn g (j.vtable, j.value)).Judge.held j.value) c.in_ok-slave.slave).kept c.in_ok-masters.masters.items
     (c.in_ok-judges.ensures ∙ ap (map (λ m. fresh (judge_rule_of m))) c.list-2.ensures) c.in_ok-slave.ensures.judges
-    (c.in_ok-slave.ensures.config ∙ c.new_config.ensures.config) (c.in_ok-masters.ensures ∙ ap (map watched_master_of) c.list.ensures) c.in_ok-slave.ensures.masters c.in_ok-slave.ensures.stands
+    (c.in_ok-slave.ensures.config ∙ c.new_config.ensures) (c.in_ok-masters.ensures ∙ ap (map watched_master_of) c.list.ensures) c.in_ok-slave.ensures.masters c.in_ok-slave.ensures.stands
