@@ -61,7 +61,10 @@ pub fn receive(
     reserve_for(pools, from)?;
     match pools.take(at, from, octets)? {
         PoolTaken::Stranger => texts.add_text(&PoolLine::Stranger { line }),
-        PoolTaken::In(place, _) => tell_ports(pools, place, line, texts),
+        PoolTaken::In(place, taken) => {
+            pools.give_back(place, taken);
+            tell_ports(pools, place, line, texts)
+        }
     }
 }
 

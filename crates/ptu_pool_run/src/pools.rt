@@ -140,6 +140,15 @@ impl<P: Port> Pools<P> {
         Ok(PoolTaken::In(place, taken))
     }
 
+    /// Returns what `take` answered of the pool at this place, so that its buffer is used again for
+    /// the pool's next Signaling.
+    pub fn give_back(&mut self, pool: usize, taken: Taken)
+        requires { pool < length self.old.pools }
+        ensures { self.new ≡ self.old }
+    {
+        self.gms[pool].give_back(taken);
+    }
+
     /// A table of the pool at this place takes a turn, at the core's moment for `t`. No memory.
     pub fn turn(&mut self, pool: usize, table: usize, t: Moment) -> Turned
         requires pool { pool < length self.old.pools }

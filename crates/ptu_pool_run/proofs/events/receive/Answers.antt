@@ -23,5 +23,6 @@ returns c =
           _ (λ port. refl) (λ port ds s. s) (λ port s. s) c.args.at c.args.from w.in-In.place c.args.octets.now _ c.take.new.self w.tell_ports.new.pools c.args.texts.now w.tell_ports.new.texts
           room.room took.0 took.1
           (taken.stands (setup_config setup) events (room.kept.go_on.stand (setup_config setup) events sold.stand)) (record { last = last; others = others; says = says; emptied = idle; kept_sure = sure }))
-          w.tell_ports.ensures.go_on w.tell_ports.ensures.others w.tell_ports.ensures.says w.tell_ports.ensures.idle w.tell_ports.ensures.sure)
+          (rw w.give_back.ensures at w.tell_ports.ensures.go_on) (rw w.give_back.ensures at w.tell_ports.ensures.others) (rw w.give_back.ensures at w.tell_ports.ensures.says) w.tell_ports.ensures.idle
+          (rw w.give_back.ensures at w.tell_ports.ensures.sure))
     ]
