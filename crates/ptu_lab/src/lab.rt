@@ -8,7 +8,6 @@ ghost use Rattle.ptu_world.specs.{World.{step}, Report.{Course, course_opening, 
 ghost use Rattle.ptu_lab.specs.{Standing.{HasObeyed, LabStandsFor}, Steps.{stock_of}};
 
 use crate::slave_node::SlaveNode;
-use crate::stock::Reserve;
 use ptu_judges::Stock;
 use ptu_nodes::{GrandmasterNode, Journal};
 use ptu_report::Texts;
@@ -32,7 +31,7 @@ pub struct Lab {
     /// What they sent, and what is said of a line.
     pub journal: Journal,
     /// The judges that are left.
-    pub stock: Reserve,
+    pub stock: Stock,
     /// Whether there was an event.
     pub has_begun: bool,
 }
@@ -48,10 +47,7 @@ impl Lab {
         Lab {
             nodes: HashMap::new(alloc),
             journal: Journal::new(alloc),
-            stock: Reserve {
-                flags: stock.flags,
-                gaps: stock.gaps,
-            },
+            stock,
             has_begun: false,
         }
     }
