@@ -71,8 +71,8 @@ fn later(sequence: u16, count: u64) -> u16
 
 impl<P: Port> Gm<P> {
     /// Changes the capacity in force, at the core's moment for `t`. Where the live grants are above
-    /// it, the newest are shed until the rest fits, each with a CANCEL to its client. The CANCELs of
-    /// a grandmaster are numbered from 0, failed ones too.
+    /// it, the newest are shed until the rest fits, each with a CANCEL to its client. These are
+    /// numbered from 0 for a grandmaster, failed ones too.
     ///
     /// # Errors
     /// `OutOfMemory`, only where what is reserved is above the new capacity. Nothing has changed

@@ -9,7 +9,7 @@ ghost use Rattle.ptu_lab.specs.Steps.{IsNoSlave, refusal};
 ghost use Rattle.ptu_lab.specs.Standing.{HasObeyed, LabStandsFor};
 
 use crate::lab::{Lab, Node};
-use crate::slave_node::SlaveNode;
+use crate::slave_node::{MASTERS, SlaveNode};
 use crate::stock::take_judge;
 use ptu_judges::Rule;
 use ptu_nodes::GrandmasterNode;
@@ -112,7 +112,7 @@ impl Lab {
         if node.place(ip).is_some() {
             return Ok(Some(Cause::Node));
         }
-        if node.masters() >= 16 {
+        if node.masters() >= MASTERS {
             return Ok(Some(Cause::Full));
         }
         let judge = match take_judge(&mut self.stock, rule) {

@@ -37,7 +37,7 @@ use ptu_units::{Moment, OutOfMemory};
 use std::alloc::Global;
 
 /// A slave has at most so many masters.
-const MASTERS: usize = 16;
+pub(crate) const MASTERS: usize = 16;
 
 /// A slave of a script: it has a port in memory, in which nothing stands between events.
 #[derive(Drop)]

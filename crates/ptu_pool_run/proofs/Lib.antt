@@ -22,3 +22,4 @@ pub mod Whole
 pub mod Refused
 pub mod Alone
 mod Taken
+pub mod OnLiterals

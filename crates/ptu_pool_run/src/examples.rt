@@ -15,7 +15,7 @@ ghost use Rattle.ptu_pool_run.specs.declared.command.PoolCommand.TheVariants as 
 ghost use Rattle.ptu_pool_run.specs.declared.output.PoolLine.TheVariants as lines;
 
 /// One line of each form.
-#[tactic(auto, unfolding(crate::specs::Command::pool_command_of, crate::specs::Command::pool_fields_in, ptu_script::specs::Command::grandmaster_in))]
+#[tactic(auto, unfolding(crate::proofs::OnLiterals::pools_on_literals))]
 pub fn good_lines()
     ensures empty { pool_command_of [] ≡ Ok None }
     ensures comment { pool_command_of (codes "#pool") ≡ Ok None }
@@ -40,7 +40,7 @@ pub fn good_lines()
 {}
 
 /// Lines that are refused, each for the first cause that applies.
-#[tactic(auto, unfolding(crate::specs::Command::pool_command_of, crate::specs::Command::pool_fields_in, ptu_script::specs::Command::grandmaster_in))]
+#[tactic(auto, unfolding(crate::proofs::OnLiterals::pools_on_literals))]
 pub fn refused_lines()
     ensures word { IsPoolLineRefused (codes "slave 1 2 3") causes.Word }
     ensures word_of_a_blank { IsPoolLineRefused (codes " turn 0 1 0") causes.Word }

@@ -23,6 +23,9 @@ use ptu_units::{Moment, OutOfMemory};
 use std::alloc::Global;
 use std::marker::Model;
 
+/// So many pools there are at most.
+pub(crate) const MOST: usize = 16;
+
 /// Pools, each with a grandmaster of its own. No address is in two of them.
 #[derive(Drop)]
 pub struct Pools<P: Port> {

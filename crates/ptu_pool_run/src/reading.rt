@@ -8,6 +8,7 @@ ghost use Rattle.ptu_pool_run.specs.declared.verb.PoolVerb.TheVariants as verbs;
 
 use crate::Pool;
 use crate::command::PoolCommand;
+use crate::pools::MOST;
 use crate::verb::PoolVerb;
 use ptu_lines::WordList;
 use ptu_script::Cause;
@@ -50,7 +51,7 @@ fn turn<'a>(line: &WordList) -> Result<PoolCommand<'a>, Cause>
     ensures within { IfOk result IsPoolCommandInRange }
 {
     let at = moment_field(line, 2)?;
-    let pool = number_field(line, 3, 1, 16)?;
+    let pool = number_field(line, 3, 1, MOST as u64)?;
     let table = number_field(line, 4, 0, 3)?;
     Ok(PoolCommand::Turn {
         at,

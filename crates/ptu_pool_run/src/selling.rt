@@ -5,15 +5,13 @@ ghost use Rattle.ptu_pool_run.specs.Refusal.{Share};
 ghost use Rattle.ptu_pool_run.specs.{Selling.{selling_refusal}, Standing.{AreSold}};
 
 use crate::cause::PoolCause;
+use crate::pools::MOST;
 use crate::{Pool, Pools, PoolsFault};
 use ptu_nodes::config_of;
 use ptu_outside::MemPort;
 use ptu_script::GrandmasterSetup;
 use ptu_units::OutOfMemory;
 use std::alloc::Global;
-
-/// So many pools there are at most.
-const MOST: usize = 16;
 
 // So many ports in memory, at which nothing waits and no call is to fail.
 fn idle_ports(alloc: Global, count: usize) -> Result<Vec<MemPort>, OutOfMemory>

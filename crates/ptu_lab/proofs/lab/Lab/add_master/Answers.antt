@@ -18,15 +18,15 @@ pub returns-then-is_some-clause-made : goal.returns-then-is_some-clause-made
 returns-then-is_some-clause-made g c = λ line course stands.
     has_it (λ n. seen (λ j. (goal.Judge-dyn g (j.vtable, j.value)).Judge.held j.value) n.slave) _ _ _ course c.args.slave c.args.ip c.args.priority c.args.rule stands c.in-Some.node c.if-self.false c.in-Some.ensures.found line _ _ (sym (ap is_some c.place.ensures) ∙ (sym c.is_some.ensures ∙ c.if-is_some.true))
 
-pub returns-then-masters-ge16-clause-made : goal.returns-then-masters-ge16-clause-made
-returns-then-masters-ge16-clause-made g c = λ line course stands.
+pub returns-then-masters-ge-MASTERS-clause-made : goal.returns-then-masters-ge-MASTERS-clause-made
+returns-then-masters-ge-MASTERS-clause-made g c = λ line course stands.
     is_full (λ n. seen (λ j. (goal.Judge-dyn g (j.vtable, j.value)).Judge.held j.value) n.slave) _ _ _ course c.args.slave c.args.ip c.args.priority c.args.rule stands c.in-Some.node c.if-self.false c.in-Some.ensures.found line _ _ (sym (ap is_some c.place.ensures) ∙ (sym c.is_some.ensures ∙ c.if-is_some.false))
-    (ap (leb 16) (sym c.masters.ensures) ∙ le-leb 16 c.masters.result c.if-masters-ge16.true)
+    (ap (leb 16) (sym c.masters.ensures) ∙ le-leb 16 c.masters.result c.if-masters-ge-MASTERS.true)
 
 pub returns-in-None-take_judge-clause-made : goal.returns-in-None-take_judge-clause-made
 returns-in-None-take_judge-clause-made g c = λ line course stands.
     no_judge (λ n. seen (λ j. (goal.Judge-dyn g (j.vtable, j.value)).Judge.held j.value) n.slave) _ _ _ course c.args.slave c.args.ip c.args.priority c.args.rule stands c.in-Some.node c.if-self.false c.in-Some.ensures.found line _ _ (sym (ap is_some c.place.ensures) ∙ (sym c.is_some.ensures ∙ c.if-is_some.false))
-    (ap (leb 16) (sym c.masters.ensures) ∙ few c.masters.result c.if-masters-ge16.false) c.in-None-take_judge.ensures
+    (ap (leb 16) (sym c.masters.ensures) ∙ few c.masters.result c.if-masters-ge-MASTERS.false) c.in-None-take_judge.ensures
 
 pub with_master-requires-clause-means : goal.with_master-requires-clause-means
 with_master-requires-clause-means g c =
@@ -35,6 +35,6 @@ with_master-requires-clause-means g c =
 pub returns-clause-made : goal.returns-clause-made
 returns-clause-made g c = λ line course stands.
     added (λ n. seen (λ j. (goal.Judge-dyn g (j.vtable, j.value)).Judge.held j.value) n.slave) _ _ _ course c.args.slave c.args.ip c.args.priority c.args.rule stands c.in-Some.node c.if-self.false c.in-Some.ensures.found _ _ _ line c.in_ok-node.node _ (sym (ap is_some c.place.ensures) ∙ (sym c.is_some.ensures ∙ c.if-is_some.false))
-    (ap (leb 16) (sym c.masters.ensures) ∙ few c.masters.result c.if-masters-ge16.false)
+    (ap (leb 16) (sym c.masters.ensures) ∙ few c.masters.result c.if-masters-ge-MASTERS.false)
     c.in-Some-take_judge.ensures c.in_ok-node.ensures.ip (λ s r is fresh. c.in_ok-node.ensures.stands s r is fresh)
     (λ q. put_back (nat_eq c.args.slave q) _ _ _ _ _ (c.in_ok-insert.ensures.updates.0 q) (c.take_slave.ensures.others q)) refl refl
