@@ -1,6 +1,6 @@
 //! What happens to pools at a line of a script, and what is told of it.
 
-ghost use Rattle.std.specs.Prelude.{◌≡◌, ◌<◌, ℕ, List, IfSome, OnOk, Some, length, slice_get};
+ghost use Rattle.std.specs.Prelude.{◌≡◌, ◌<◌, ℕ, List, OnOk, Some, length, slice_get};
 ghost use Rattle.std.specs.List.{position};
 ghost use Rattle.ptu_outside.specs.MemoryPort.{MemoryPort};
 ghost use Rattle.ptu_grandmaster.specs.Gm.{KeptGm};
@@ -11,19 +11,12 @@ ghost use Rattle.ptu_pool_run.specs.Standing.{AreSold, HasHappened};
 ghost use Rattle.ptu_script.specs.declared.command.GrandmasterSetup.{GrandmasterSetup};
 
 use crate::output::PoolLine;
+use crate::pools::pool_of;
 use crate::room::{reserve_replies, reserve_turn, tell_ports};
-use crate::{Pool, PoolTaken, Pools};
+use crate::{PoolTaken, Pools};
 use ptu_outside::MemPort;
 use ptu_report::Texts;
 use ptu_units::{Moment, OutOfMemory};
-
-// The place of the pool that the address is in.
-fn place_of(pools: &[Pool], from: u32) -> Option<usize>
-    ensures place { result ≡ position (is_in from) pools.now }
-    ensures within { IfSome result (λ place. place < length pools.now) }
-{
-    pools.iter().position(|pool| pool.contains(from))
-}
 
 // Makes room for what the pool that the address is in may answer, if it is in any.
 #[tactic(auto, using(crate::proofs::Lent::go_on_same))]
@@ -33,7 +26,7 @@ fn reserve_for(pools: &mut Pools<MemPort>, from: u32) -> Result<(), OutOfMemory>
         slice_get pools.new.gms place ≡ Some gm → HasReplyRoom gm) }
     ensures kept { GoOnIdle pools.old pools.new }
 {
-    match place_of(pools.pools(), from) {
+    match pool_of(pools.pools(), from) {
         None => Ok(()),
         Some(place) => reserve_replies(pools, place),
     }

@@ -54,8 +54,8 @@ pub enum PoolTaken {
     In(usize, Taken),
 }
 
-// The place of the pool that the address is in.
-fn pool_of(pools: &[Pool], ip: u32) -> Option<usize>
+/// The place of the pool that the address is in.
+pub(crate) fn pool_of(pools: &[Pool], ip: u32) -> Option<usize>
     ensures place { result ≡ position (is_in ip) pools.now }
     ensures within { IfSome result (λ place. place < length pools.now) }
 {
