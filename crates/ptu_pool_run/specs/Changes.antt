@@ -11,8 +11,8 @@ use Rattle.ptu_grandmaster.specs.declared.outcome.Taken.{Taken}
 use Rattle.ptu_grandmaster.specs.Gm.{KeptGm, StandsFor, table_at, with_table}
 use Rattle.ptu_grandmaster.specs.Outcomes.{answers_seen}
 use Rattle.ptu_grandmaster.specs.Taking.{ComesTo, IsAnswerTo, OnAsked, OnDelay, OnIgnored, Replies, Responds}
-use Rattle.ptu_pool_run.specs.declared.pools.PoolTaken.{PoolTaken}
-use Rattle.ptu_pool_run.specs.{declared.pools.PoolTaken.TheVariants.{Stranger, In}, Pool.{is_in_at}}
+use Rattle.ptu_pool_run.specs.declared.pool_set.PoolTaken.{PoolTaken}
+use Rattle.ptu_pool_run.specs.{declared.pool_set.PoolTaken.TheVariants.{Stranger, In}, Pool.{is_in_at}}
 use Rattle.ptu_pool_run.specs.PoolsStanding.{ChangesOne, KeptPools}
 
 -- what a grandmaster did with a datagram from the address that it was handed at the moment, before and after

@@ -3,7 +3,7 @@ use Rattle.std.specs.Prelude.{ℕ, zero, suc, List, [], ◌∷◌}
 use Rattle.std.specs.Borrow.{Fml, Lends, MutBor, RattleType}
 use Rattle.ptu_outside.specs.declared.port.Port.{Ghosts}
 use Rattle.ptu_grandmaster.specs.Gm.{KeptGm, with_port}
-use Rattle.ptu_pool_run.specs.{contracts.pools.Pools.{the_row}, PoolsStanding.{KeptPools}}
+use Rattle.ptu_pool_run.specs.{contracts.pool_set.Pools.{the_row}, PoolsStanding.{KeptPools}}
 use Rattle.ptu_pool_run.specs.Ported.{with_port_of}
 
 -- once the borrow r ends, the grandmaster of the pool at this place has the port of this index as it was left behind r, and all

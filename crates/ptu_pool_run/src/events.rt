@@ -11,7 +11,7 @@ ghost use Rattle.ptu_pool_run.specs.Standing.{AreSold, HasHappened};
 ghost use Rattle.ptu_script.specs.declared.command.GrandmasterSetup.{GrandmasterSetup};
 
 use crate::output::PoolLine;
-use crate::pools::pool_of;
+use crate::pool_set::pool_of;
 use crate::room::{reserve_replies, reserve_turn, tell_ports};
 use crate::{PoolTaken, Pools};
 use ptu_outside::MemPort;

@@ -8,7 +8,7 @@ ghost use Rattle.ptu_pool_run.specs.declared.verb.PoolVerb.TheVariants as verbs;
 
 use crate::Pool;
 use crate::command::PoolCommand;
-use crate::pools::MOST;
+use crate::pool_set::MOST;
 use crate::verb::PoolVerb;
 use ptu_lines::WordList;
 use ptu_script::Cause;

@@ -5,7 +5,7 @@ ghost use Rattle.ptu_pool_run.specs.Refusal.{Share};
 ghost use Rattle.ptu_pool_run.specs.{Selling.{selling_refusal}, Standing.{AreSold}};
 
 use crate::cause::PoolCause;
-use crate::pools::MOST;
+use crate::pool_set::MOST;
 use crate::{Pool, Pools, PoolsFault};
 use ptu_nodes::config_of;
 use ptu_outside::MemPort;

@@ -2,7 +2,7 @@ use Rattle.std.proofs.Common.{◌∙◌, List, ap, set}
 use Rattle.std.proofs.lemmas.List.{set-get_or}
 use Rattle.ptu_grandmaster.specs.Gm.{KeptGm}
 use Rattle.ptu_pool_run.specs.PoolsStanding.{KeptPools}
-use Rattle.ptu_pool_run.proofs.pools.Pools.give_back.Goals as goal
+use Rattle.ptu_pool_run.proofs.pool_set.Pools.give_back.Goals as goal
 
 pub returns : goal.returns
 returns g c =

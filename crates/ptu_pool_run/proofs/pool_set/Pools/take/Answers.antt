@@ -1,7 +1,7 @@
 use Rattle.std.proofs.Common.{◌≡◌, ◌∙◌, refl, sym, position, None, rules}
 use Rattle.ptu_pool_run.specs.{Pool.{is_in}, PoolsStanding.{KeptPools}}
 use Rattle.ptu_pool_run.proofs.Taken.{at_place, changes_one, in_none, is_there, on_err, still_stands, stranger_stands, taken_stands}
-use Rattle.ptu_pool_run.proofs.pools.Pools.take.Goals as goal
+use Rattle.ptu_pool_run.proofs.pool_set.Pools.take.Goals as goal
 
 pub returns-in_default : goal.returns-in_default
 returns-in_default g c =

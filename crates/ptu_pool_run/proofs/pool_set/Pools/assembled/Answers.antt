@@ -2,7 +2,7 @@ use Rattle.std.proofs.Common.{◌≡◌, ◌∙◌, ◌≤◌, sym, ap, subst, a
 use Rattle.ptu_pool_run.specs.{declared.pool.Pool.{Pool}, Making.{AreFresh}, Pool.{AreApart}}
 use Rattle.ptu_pool_run.specs.PoolsStanding.{KeptPools}
 use Rattle.ptu_pool_run.proofs.Fresh.{fresh-stand}
-use Rattle.ptu_pool_run.proofs.pools.Pools.assembled.Goals as goal
+use Rattle.ptu_pool_run.proofs.pool_set.Pools.assembled.Goals as goal
 
 pub invariant_of-result : goal.invariant_of-result
 invariant_of-result g c =

@@ -3,7 +3,7 @@ use Rattle.std.proofs.lemmas.Option.{slice_get-get_or}
 use Rattle.ptu_grandmaster.specs.Gm.{KeptGm, port_at, with_port}
 use Rattle.ptu_pool_run.specs.{Ported.{with_port_at}, PoolsStanding.{KeptPools}}
 use Rattle.ptu_pool_run.proofs.Ported.{stand-ported, with_port_set}
-use Rattle.ptu_pool_run.proofs.pools.Pools.ports.Goals as goal
+use Rattle.ptu_pool_run.proofs.pool_set.Pools.ports.Goals as goal
 
 pub returns : goal.returns
 returns g c =

@@ -3,7 +3,7 @@ use Rattle.std.proofs.lemmas.Option.{slice_get-get_or}
 use Rattle.ptu_grandmaster.specs.Gm.{table_at}
 use Rattle.ptu_pool_run.specs.PoolsStanding.{KeptPools}
 use Rattle.ptu_pool_run.proofs.Taken.{changes_one, turned_stands}
-use Rattle.ptu_pool_run.proofs.pools.Pools.turn.Goals as goal
+use Rattle.ptu_pool_run.proofs.pool_set.Pools.turn.Goals as goal
 
 pub returns : goal.returns
 returns g c =
