@@ -46,8 +46,26 @@ fn is_same(octets: &[u8], others: &[u8], at: usize) -> bool
     }
 }
 
+// The end, where fewer than eight octets are left from a place up to which both are the same, and
+// the last eight are the same, too; else that place.
+#[inline(always)]
+fn past_rest(octets: &[u8], others: &[u8], at: usize) -> usize
+    requires size { length others.now ≡ length octets.now }
+    requires at { at ≤ length octets.now }
+    requires before { take at others.now ≡ take at octets.now }
+    ensures within { result ≤ length octets.now }
+    ensures before { take result others.now ≡ take result octets.now }
+    ensures further { at ≤ result }
+{
+    let size = octets.len();
+    if size < PART || size - at >= PART || !is_same(octets, others, size - PART) {
+        return at;
+    }
+    size
+}
+
 // The next place, from one on up to which both are the same, from which they differ within eight
-// octets, or fewer than eight are left.
+// octets, or fewer than eight are left and some of the last eight differ.
 #[inline(always)]
 fn next_other(octets: &[u8], others: &[u8], at: usize) -> usize
     requires size { length others.now ≡ length octets.now }
@@ -61,7 +79,25 @@ fn next_other(octets: &[u8], others: &[u8], at: usize) -> usize
     'parts: while is_same(octets, others, place) {
         place += PART;
     }
-    place
+    past_rest(octets, others, place)
+}
+
+// Makes the octets between two places those of the other list, with their digits, where those
+// before are.
+#[inline(always)]
+fn renew_part(last: &mut [u8], digits: &mut [u8], octets: &[u8], at: usize, end: usize)
+    requires size { length last.old ≡ length octets.now }
+    requires digits { digits.old ≡ encode_lower last.old }
+    requires order { at ≤ end }
+    requires within { end ≤ length octets.now }
+    requires before { take at last.old ≡ take at octets.now }
+    ensures size { length last.new ≡ length octets.now }
+    ensures digits { digits.new ≡ encode_lower last.new }
+    ensures before { take end last.new ≡ take end octets.now }
+{
+    let part = &octets[at..end];
+    write_hexadecimal(part, &mut digits[2 * at..2 * end]);
+    last[at..end].copy_from_slice(part);
 }
 
 // Makes eight octets from a place on, or those that are left, those of the other list, with their
@@ -78,11 +114,14 @@ fn renew(last: &mut [u8], digits: &mut [u8], octets: &[u8], at: usize) -> usize
     ensures within { result ≤ length octets.now }
     ensures further { at < result }
 {
-    let end = octets.len().min(at + PART);
-    let part = &octets[at..end];
-    write_hexadecimal(part, &mut digits[2 * at..2 * end]);
-    last[at..end].copy_from_slice(part);
-    end
+    let size = octets.len();
+    if size - at < PART {
+        renew_part(last, digits, octets, at, size);
+        return size;
+    }
+    // Eight are a number that is known when this is compiled.
+    renew_part(last, digits, octets, at, at + PART);
+    at + PART
 }
 
 // Makes all octets those of the other list, with their digits.
