@@ -6,6 +6,7 @@ pub mod HasRead
 pub mod Logs
 pub mod NextLine
 pub mod Numbers
+pub mod Plain
 pub mod Ranges
 pub mod Separators
 mod WordCutting

@@ -54,16 +54,34 @@ fn first_end(octets: &[u8]) -> Option<usize>
     memchr(b'\n', octets)
 }
 
+// So many octets are looked at at a time.
+const PART: usize = 32;
+
 // Whether all octets are from 20 to 7E (hexadecimal).
+#[inline(always)]
+fn are_plain(octets: &[u8]) -> bool
+    ensures { result ≡ list_all is_plain octets.now }
+{
+    let mut is_plain = true;
+    for octet in octets {
+        is_plain &= 0x20 <= *octet && *octet <= 0x7E;
+    }
+    is_plain
+}
+
+// Whether all octets are from 20 to 7E (hexadecimal). Those that are left behind whole parts are
+// looked at with some before them, as one part more.
 #[inline(always)]
 fn is_plain_text(text: &[u8]) -> bool
     ensures { result ≡ list_all is_plain text.now }
 {
-    let mut is_plain = true;
-    for octet in text {
-        is_plain &= 0x20 <= *octet && *octet <= 0x7E;
+    match text.last_chunk::<PART>() {
+        None => are_plain(text),
+        Some(last) => {
+            let whole = text.len() / PART * PART;
+            are_plain(&text[..whole]) && are_plain(last)
+        }
     }
-    is_plain
 }
 
 // Why a line is refused, if it is: so many octets stand before it, and the first `text` of its own
