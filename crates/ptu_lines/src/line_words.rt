@@ -8,6 +8,7 @@ use memchr::memchr;
 use std::marker::Model;
 
 // Where this octet stands first. Parts are short, so it looks at one octet after the other.
+#[inline(always)]
 fn place(text: &[u8], octet: u8) -> Option<usize>
     ensures { result ≡ position (λ other. other == octet) text.now }
 {
@@ -88,19 +89,24 @@ fn keep_end(ends: &mut [usize; MOST_WORDS], place: usize, end: usize)
 // How many octets of a word are looked at one after the other: most words are shorter.
 const SHORT_WORD: usize = 16;
 
-// Where the first space stands.
+// Where the first space stands. How many octets are looked at is known when this is compiled, but at
+// the end of a line.
+#[inline(always)]
 fn next_space(text: &[u8]) -> Option<usize>
     ensures { result ≡ position (λ octet. octet == 32) text.now }
 {
-    let near = text.len().min(SHORT_WORD);
-    if let Some(size) = place(&text[..near], b' ') {
+    let Some(near) = text.first_chunk::<SHORT_WORD>() else {
+        return place(text, b' ');
+    };
+    if let Some(size) = place(near, b' ') {
         return Some(size);
     }
-    let size = memchr(b' ', &text[near..])?;
-    Some(near + size)
+    let size = memchr(b' ', &text[SHORT_WORD..])?;
+    Some(SHORT_WORD + size)
 }
 
 // The ends of the first words of a line, and how many words it has.
+#[inline(always)]
 fn ends(line: &[u8]) -> ([usize; MOST_WORDS], usize)
     ensures { HasEnds line.now result.0 result.1 }
 {
@@ -119,6 +125,7 @@ fn ends(line: &[u8]) -> ([usize; MOST_WORDS], usize)
 
 impl<'a> WordList<'a> {
     /// The words of a line.
+    #[inline(always)]
     pub fn new(line: &'a [u8]) -> WordList<'a>
         ensures { result ≡ line.now }
     {
