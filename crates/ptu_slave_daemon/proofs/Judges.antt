@@ -63,9 +63,9 @@ masters_are settings is =
 -- ---- the stock
 
 -- where there is one it is taken
-pub one_there : {A N : Type 0} {Holds : A → Type 0} (found : Option A) → MatchOption found N Holds → (N → ⊥) → IsSome found
-one_there None none some = absurd (some none)
-one_there (Some judge) held some = refl
+pub one_there : {A : Type 0} (N : Type 0) (Holds : A → Type 0) (found : Option A) → MatchOption found N Holds → (N → ⊥) → IsSome found
+one_there N Holds None none some = absurd (some none)
+one_there N Holds (Some judge) holds some = refl
 
 -- so many judges are enough for these masters
 pub record Enough (masters : List MasterSetting) (flags gaps : ℕ) : Type 0 where

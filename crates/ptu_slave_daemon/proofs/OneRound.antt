@@ -1,7 +1,7 @@
 -- One round after another.
 use Rattle.std.proofs.Common.{◌≡◌, ◌∙◌, ◌⊎◌, inl, inr, ℕ, zero, suc, ◌+◌, ◌*◌, ◌≤◌, ◌++◌, List, [], ◌∷◌, Bool, length, map, take, drop, refl, sym, ap, ap₂, subst, arith, add-zero, append_assoc, Option, Some}
 use Rattle.std.proofs.lemmas.List.{append-nil, drop-drop}
-use Rattle.ptu_outside.specs.{declared.arrival.Arrival.{Arrival}, Faults.{HasNotFallen, HasRisen}}
+use Rattle.ptu_outside.specs.{declared.arrival.Arrival.{Arrival}, Faults.{HasNotFallen}}
 use Rattle.ptu_outside.specs.Rounds.{in_rounds, left_after, taken_in}
 use Rattle.ptu_outside.specs.Taken.{Gave, Round, event_of, general_of}
 use Rattle.ptu_outside.proofs.Taken.{event_of-push, general_of-push, have_taken-none, have_taken-push, in_these-push}
