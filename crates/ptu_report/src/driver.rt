@@ -98,21 +98,19 @@ fn one_line<R: Reporter, S: Source, K: Sink>(
     alloc: Global,
     reporter: &mut R,
     reader: &mut LineReader,
-    lines: u64,
     source: &mut S,
     sink: &mut K,
     texts: &mut Texts,
 ) -> Result<Option<Ending<R::Cause>>, Stop>
     requires means { (meaning : R.Meaning) × R.stands_for reporter.old meaning }
-    requires lines { reader.old.number ≡ lines }
-    requires few { lines ≤ 67108864 }
     requires in_step { AgreesOnEnd reader.old.is_ended (S.left source.old) }
     ensures in_step { AgreesOnEnd reader.new.is_ended (S.left source.new) }
     ensures stepped { IfOk result
         (λ ended. (meaning : R.Meaning) → R.stands_for reporter.old meaning
         → HasStepped K.written K.handed sink.old sink.new R.rules meaning reader.old reader.new
         (S.left source.old) (S.left source.new) (R.stands_for reporter.new) ended) }
-    ensures number { IfOk result (λ ended. IfNone ended (reader.new.number ≡ lines + 1)) }
+    ensures number { IfOk result (λ ended. IfNone ended
+        (reader.new.number ≡ reader.old.number + 1)) }
     ensures end { IfOk result (λ ended. IfSome ended (λ ending. is_whole ending
         → IsAtEnd (S.left source.new))) }
     ensures part { OnErr result ((meaning : R.Meaning) → R.stands_for reporter.old meaning
@@ -131,6 +129,7 @@ fn one_line<R: Reporter, S: Source, K: Sink>(
     ensures source_counts { CountsRead result (S.faults source.old) (S.faults source.new) }
     ensures sink_counts { CountsWrite result (K.faults sink.old) (K.faults sink.new) }
 {
+    let lines = reader.number();
     match reader.next(source) {
         Ok(Some(number)) => {
             texts.clear();
@@ -194,20 +193,10 @@ pub fn report<R: Reporter, S: Source, K: Sink>(
 {
     let mut reader = LineReader::new(alloc)?;
     let mut texts = Texts::new(alloc);
-    let mut lines = 0;
     'lines: loop {
-        let ended = one_line(
-            alloc,
-            reporter,
-            &mut reader,
-            lines,
-            source,
-            sink,
-            &mut texts,
-        )?;
+        let ended = one_line(alloc, reporter, &mut reader, source, sink, &mut texts)?;
         if let Some(ending) = ended {
             return Ok(ending);
         }
-        lines += 1;
     }
 }

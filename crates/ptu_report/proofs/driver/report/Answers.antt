@@ -18,9 +18,7 @@ pub lines-init : goal.lines-init
 lines-init g c =
     let fresh = c.in_ok-reader.ensures in
     record {
-      number = fresh.number;
       means = c.requires.means;
-      few = omega arith;
       in_step = λ h. absurd (let never : true ≡ false = sym h ∙ fresh.is_ended in cc);
       source_still = refl;
       sink_still = refl;
@@ -32,12 +30,9 @@ lines-init g c =
 pub lines-preserved : goal.lines-preserved
 lines-preserved g c =
     let one = c.in_ok-ended.ensures in
-    let number = rw c.in_default.is at one.number in
     let gone = rw c.in_default.is at (one.stepped c.lines.invariant.means.0 c.lines.invariant.means.1) in
     record {
-      number = number;
       means = (gone.after, gone.stands_after);
-      few = omega (arith, number, one.few);
       in_step = one.in_step;
       source_still = one.source_counts ∙ c.lines.invariant.source_still;
       sink_still = one.sink_counts ∙ c.lines.invariant.sink_still;

@@ -5,9 +5,7 @@ use Rattle.ptu_report.proofs.driver.report.Given as goal
 
 abbrev pub invariant-lines : goal.invariant-lines
 invariant-lines g l = record {
-  number : l.reader.number ≡ l.lines;
   means : (m : _) × g.R.Reporter.stands_for l.reporter m;
-  few : l.lines ≤ 67108864;
   in_step : AgreesOnEnd l.reader.is_ended (g.S.Source.left l.source);
   source_still : g.S.Source.faults l.source ≡ g.S.Source.faults l.initial.source;
   sink_still : g.K.Sink.faults l.sink ≡ g.K.Sink.faults l.initial.sink;
@@ -18,4 +16,4 @@ invariant-lines g l = record {
 }
 
 abbrev pub decreases-lines : goal.decreases-lines
-decreases-lines g l = 67108865 - l.lines
+decreases-lines g l = 67108865 - l.reader.number
