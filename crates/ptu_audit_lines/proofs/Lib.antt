@@ -1,3 +1,4 @@
 mod Logs
 mod Fitting
 mod Fields
+pub mod OnLiterals

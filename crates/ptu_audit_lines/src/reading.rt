@@ -1,4 +1,5 @@
 //! What a line says, by its form.
+#![tactic(auto, using(crate::proofs::Fields::forms), unfolding(crate::proofs::Fields::readers))]
 
 ghost use Rattle.std.specs.{Prelude.{◌≡◌, true}, Option.{is_some}};
 ghost use Rattle.ptu_audit_lines.specs.Entry as specs;
@@ -14,7 +15,6 @@ use ptu_history::Client;
 use ptu_lines::WordList;
 use ptu_units::sizes::LONGEST_DATAGRAM;
 
-#[tactic(auto, unfolding(crate::specs::Entry::granted_in))]
 fn granted(line: &WordList) -> Option<Decision>
     requires { is_numbered line.now ≡ true }
     ensures { result ≡ specs.granted_in line.now }
@@ -35,7 +35,6 @@ fn granted(line: &WordList) -> Option<Decision>
     })
 }
 
-#[tactic(auto, unfolding(crate::specs::Entry::short_in))]
 fn short(line: &WordList) -> Option<Decision>
     requires { is_numbered line.now ≡ true }
     ensures { result ≡ specs.short_in line.now }
@@ -62,7 +61,6 @@ fn short(line: &WordList) -> Option<Decision>
     })
 }
 
-#[tactic(auto, unfolding(crate::specs::Entry::outside_type_in))]
 fn outside_type(line: &WordList) -> Option<Decision>
     requires { is_numbered line.now ≡ true }
     ensures { result ≡ specs.outside_type_in line.now }
@@ -74,7 +72,6 @@ fn outside_type(line: &WordList) -> Option<Decision>
     Some(Decision::OutsideType { code })
 }
 
-#[tactic(auto, unfolding(crate::specs::Entry::outside_log_in))]
 fn outside_log(line: &WordList) -> Option<Decision>
     requires { is_numbered line.now ≡ true }
     ensures { result ≡ specs.outside_log_in line.now }
@@ -87,7 +84,6 @@ fn outside_log(line: &WordList) -> Option<Decision>
     Some(Decision::OutsideLog { kind, log })
 }
 
-#[tactic(auto, unfolding(crate::specs::Entry::outside_duration_in))]
 fn outside_duration(line: &WordList) -> Option<Decision>
     requires { is_numbered line.now ≡ true }
     ensures { result ≡ specs.outside_duration_in line.now }
@@ -101,7 +97,6 @@ fn outside_duration(line: &WordList) -> Option<Decision>
     Some(Decision::OutsideDuration { kind, log, seconds })
 }
 
-#[tactic(auto, unfolding(crate::specs::Entry::cancelled_in))]
 fn cancelled(line: &WordList) -> Option<Decision>
     requires { is_numbered line.now ≡ true }
     ensures { result ≡ specs.cancelled_in line.now }
@@ -114,7 +109,6 @@ fn cancelled(line: &WordList) -> Option<Decision>
     Some(Decision::Cancelled { kind, at })
 }
 
-#[tactic(auto, unfolding(crate::specs::Entry::nothing_in))]
 fn nothing(line: &WordList) -> Option<Decision>
     requires { is_numbered line.now ≡ true }
     ensures { result ≡ specs.nothing_in line.now }
@@ -127,7 +121,6 @@ fn nothing(line: &WordList) -> Option<Decision>
     Some(Decision::Nothing { kind, at })
 }
 
-#[tactic(auto, unfolding(crate::specs::Entry::nothing_code_in))]
 fn nothing_code(line: &WordList) -> Option<Decision>
     requires { is_numbered line.now ≡ true }
     ensures { result ≡ specs.nothing_code_in line.now }
@@ -176,7 +169,6 @@ fn decided<'a>(line: &WordList) -> Option<Entry<'a>>
     Some(Entry::Decided(decision(line)?))
 }
 
-#[tactic(auto, unfolding(crate::specs::Entry::capacity_in))]
 fn capacity<'a>(line: &WordList) -> Option<Entry<'a>>
     requires { is_numbered line.now ≡ true }
     ensures { result ≡ specs.capacity_in line.now }
@@ -194,7 +186,6 @@ fn capacity<'a>(line: &WordList) -> Option<Entry<'a>>
     })
 }
 
-#[tactic(auto, unfolding(crate::specs::Entry::shed_in))]
 fn shed<'a>(line: &WordList) -> Option<Entry<'a>>
     requires { is_numbered line.now ≡ true }
     ensures { result ≡ specs.shed_in line.now }
@@ -213,7 +204,6 @@ fn shed<'a>(line: &WordList) -> Option<Entry<'a>>
     Some(Entry::Shed { kind, log, client })
 }
 
-#[tactic(auto, unfolding(crate::specs::Entry::send_in))]
 fn send<'a>(line: &WordList, buffer: &'a mut [u8; LONGEST_DATAGRAM]) -> Option<Entry<'a>>
     requires { is_numbered line.now ≡ true }
     ensures { result ≡ specs.send_in line.now }
@@ -445,7 +435,6 @@ fn numbered<'a>(line: &WordList, buffer: &'a mut [u8; LONGEST_DATAGRAM]) -> Opti
     Some(ReportLine::At { number, entry })
 }
 
-#[tactic(auto, using(crate::proofs::Fields::end_fits), unfolding(crate::specs::Entry::end_in, crate::specs::Forms::fitting))]
 fn end<'a>(line: &WordList) -> Option<ReportLine<'a>>
     ensures { result ≡ specs.end_in line.now }
 {

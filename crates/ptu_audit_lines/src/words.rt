@@ -1,7 +1,7 @@
 //! The words of a line, each in the form that its place asks for.
-#![tactic(auto, unfolding(crate::specs::Words::field, crate::specs::Words::is_text, crate::specs::Words::no_word, crate::specs::Words::any_number, crate::specs::Words::kind_named, crate::specs::Words::is_channel, crate::specs::Words::channel_of, crate::specs::Words::octet_log, crate::specs::Words::log_of_kind, crate::specs::Words::log_outside, crate::specs::Words::hex_of, crate::specs::Words::lower_clock, crate::specs::Words::identity_in_word))]
+#![tactic(auto, unfolding(crate::proofs::OnLiterals::words_on_literals))]
 
-ghost use Rattle.std.specs.Prelude.{◌≡◌, ◌==◌, ◌≤◌, ◌≤ℤ◌, pos, Some, None, IfSome, MatchOption, option_and_then, option_copied, length, take};
+ghost use Rattle.std.specs.Prelude.{◌≡◌, ◌==◌, ◌≤◌, ◌≤ℤ◌, pos, true, Some, None, IfSome, OnSome, MatchOption, option_and_then, option_copied, length, take};
 ghost use Rattle.std.specs.{Option.{is_some}, Str.{bytes_eq}};
 ghost use Rattle.ptu_units.specs.Log.{IsLogOf, least_log};
 ghost use Rattle.ptu_lines.specs.Words.{int_within, ip_of, number_within, octets_of, word_of};
@@ -109,7 +109,7 @@ pub fn ip_field(line: &WordList, k: usize) -> Option<u32>
 pub fn octet_log(word: &[u8]) -> Option<i8>
     ensures { result ≡ forms.octet_log word.now }
 {
-    log(word, -128, 127)
+    log(word, i8::MIN, i8::MAX)
 }
 
 // The logarithm, where it is in the range of the kind.
@@ -121,7 +121,8 @@ fn of_kind(kind: Kind, value: i8) -> Option<Log>
 
 #[inline(always)]
 fn log_of(word: &[u8], kind: Kind) -> Option<Log>
-    ensures { result ≡ forms.log_of_kind kind word.now }
+    ensures value { result ≡ forms.log_of_kind kind word.now }
+    ensures octet { OnSome result (is_some (forms.octet_log word.now) ≡ true) }
 {
     let value = octet_log(word)?;
     of_kind(kind, value)
@@ -129,13 +130,15 @@ fn log_of(word: &[u8], kind: Kind) -> Option<Log>
 
 /// The logarithm in the range of the kind that the word with this number is.
 pub fn log_field(line: &WordList, k: usize, kind: Kind) -> Option<Log>
-    ensures { result ≡ forms.field k (forms.log_of_kind kind) line.now }
+    ensures value { result ≡ forms.field k (forms.log_of_kind kind) line.now }
+    ensures octet { OnSome result (is_some (forms.field k forms.octet_log line.now) ≡ true) }
 {
     log_of(line.word(k)?, kind)
 }
 
 fn log_outside(word: &[u8], kind: Kind) -> Option<i8>
-    ensures { result ≡ forms.log_outside kind word.now }
+    ensures value { result ≡ forms.log_outside kind word.now }
+    ensures octet { OnSome result (is_some (forms.octet_log word.now) ≡ true) }
 {
     match log_of(word, kind) {
         Some(_) => None,
@@ -145,7 +148,8 @@ fn log_outside(word: &[u8], kind: Kind) -> Option<i8>
 
 /// The logarithm outside the range of the kind that the word with this number is.
 pub fn log_outside_field(line: &WordList, k: usize, kind: Kind) -> Option<i8>
-    ensures { result ≡ forms.field k (forms.log_outside kind) line.now }
+    ensures value { result ≡ forms.field k (forms.log_outside kind) line.now }
+    ensures octet { OnSome result (is_some (forms.field k forms.octet_log line.now) ≡ true) }
 {
     log_outside(line.word(k)?, kind)
 }
@@ -155,7 +159,7 @@ fn is_lower(word: &[u8]) -> bool
 {
     let mut is_lower = true;
     for octet in word {
-        is_lower &= !(65 <= *octet && *octet <= 90);
+        is_lower &= !(b'A' <= *octet && *octet <= b'Z');
     }
     is_lower
 }
@@ -177,7 +181,8 @@ pub fn hex_field<'a>(
     k: usize,
     buffer: &'a mut [u8; LONGEST_DATAGRAM],
 ) -> Option<LentOctets<'a>>
-    ensures { result ≡ forms.field k forms.hex_of line.now }
+    ensures value { result ≡ forms.field k forms.hex_of line.now }
+    ensures there { OnSome result (is_some (word_of line.now k) ≡ true) }
 {
     hex_of(line.word(k)?, buffer)
 }
@@ -207,7 +212,8 @@ fn identity_of(word: &[u8]) -> Option<(u64, u16)>
 
 /// The clock identity and the port number that the word with this number is.
 pub fn identity_field(line: &WordList, k: usize) -> Option<(u64, u16)>
-    ensures { result ≡ forms.field k forms.identity_in_word line.now }
+    ensures value { result ≡ forms.field k forms.identity_in_word line.now }
+    ensures there { OnSome result (is_some (word_of line.now k) ≡ true) }
 {
     identity_of(line.word(k)?)
 }

@@ -1,28 +1,11 @@
-use Rattle.std.proofs.Common.{◌≡◌, ◌∙◌, None, ap, rules, sym}
-use Rattle.std.specs.Option.{is_some}
-use Rattle.ptu_audit_lines.proofs.Fields.{granted_not_2, granted_not_5, granted_not_7, granted_not_9, granted_read}
+use Rattle.std.proofs.Common.{rules, sym, refl}
+use Rattle.ptu_audit_lines.proofs.Fields.{granted_fits, readers}
 use Rattle.ptu_audit_lines.proofs.reading.granted.Goals as goal
 
 pub returns-in_err-literal : goal.returns-in_err-literal
-returns-in_err-literal c =
-    let none : c.from_residual.result ≡ None = search rules in
-    none ∙ sym (granted_not_2 c.args.line.now c.requires (sym c.in_err-literal.ensures))
-
-pub returns-in_err-literal-2 : goal.returns-in_err-literal-2
-returns-in_err-literal-2 c =
-    let none : c.from_residual-in_err-literal-2.result ≡ None = search rules in
-    none ∙ sym (granted_not_5 c.args.line.now c.requires (sym c.in_err-literal-2.ensures))
-
-pub returns-in_err-literal-3 : goal.returns-in_err-literal-3
-returns-in_err-literal-3 c =
-    let none : c.from_residual-in_err-literal-3.result ≡ None = search rules in
-    none ∙ sym (granted_not_7 c.args.line.now c.requires (sym c.in_err-literal-3.ensures))
-
-pub returns-in_err-no_word : goal.returns-in_err-no_word
-returns-in_err-no_word c =
-    let none : c.from_residual-in_err-no_word.result ≡ None = search rules in
-    none ∙ sym (granted_not_9 c.args.line.now c.requires (sym c.in_err-no_word.ensures))
+unfolding readers
+returns-in_err-literal c = rw (granted_fits c.args.line.now c.requires, sym c.in_err-literal.ensures) (search rules)
 
 pub returns : goal.returns
-returns c = sym (granted_read c.args.line.now c.in_ok-kind.kind c.in_ok-log.log c.in_ok-at.at c.in_ok-until.until c.requires
-    (ap is_some (sym c.in_ok-literal.ensures)) (sym c.in_ok-kind.ensures) (sym c.in_ok-log.ensures) (ap is_some (sym c.in_ok-literal-2.ensures)) (sym c.in_ok-at.ensures) (ap is_some (sym c.in_ok-literal-3.ensures)) (sym c.in_ok-until.ensures) (ap is_some (sym c.in_ok-no_word.ensures)))
+unfolding readers
+returns c = rw (granted_fits c.args.line.now c.requires, sym c.in_ok-literal.ensures, sym c.in_ok-kind.ensures, sym c.in_ok-log.ensures.value, c.in_ok-log.ensures.octet, sym c.in_ok-literal-2.ensures, sym c.in_ok-at.ensures, sym c.in_ok-literal-3.ensures, sym c.in_ok-until.ensures, sym c.in_ok-no_word.ensures) refl

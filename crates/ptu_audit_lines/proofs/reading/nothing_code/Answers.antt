@@ -1,18 +1,11 @@
-use Rattle.std.proofs.Common.{◌≡◌, ◌∙◌, None, ap, rules, sym}
-use Rattle.std.specs.Option.{is_some}
-use Rattle.ptu_audit_lines.proofs.Fields.{nothing_code_not_2, nothing_code_not_4, nothing_code_read}
+use Rattle.std.proofs.Common.{rules, sym, refl}
+use Rattle.ptu_audit_lines.proofs.Fields.{nothing_code_fits, readers}
 use Rattle.ptu_audit_lines.proofs.reading.nothing_code.Goals as goal
 
 pub returns-in_err-literal : goal.returns-in_err-literal
-returns-in_err-literal c =
-    let none : c.from_residual.result ≡ None = search rules in
-    none ∙ sym (nothing_code_not_2 c.args.line.now c.requires (sym c.in_err-literal.ensures))
-
-pub returns-in_err-no_word : goal.returns-in_err-no_word
-returns-in_err-no_word c =
-    let none : c.from_residual-in_err-no_word.result ≡ None = search rules in
-    none ∙ sym (nothing_code_not_4 c.args.line.now c.requires (sym c.in_err-no_word.ensures))
+unfolding readers
+returns-in_err-literal c = rw (nothing_code_fits c.args.line.now c.requires, sym c.in_err-literal.ensures) (search rules)
 
 pub returns : goal.returns
-returns c = sym (nothing_code_read c.args.line.now c.in_ok-code.code c.requires
-    (ap is_some (sym c.in_ok-literal.ensures)) (sym c.in_ok-code.ensures) (ap is_some (sym c.in_ok-no_word.ensures)))
+unfolding readers
+returns c = rw (nothing_code_fits c.args.line.now c.requires, sym c.in_ok-literal.ensures, sym c.in_ok-code.ensures, sym c.in_ok-no_word.ensures) refl

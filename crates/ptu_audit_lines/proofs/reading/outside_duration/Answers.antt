@@ -1,23 +1,11 @@
-use Rattle.std.proofs.Common.{◌≡◌, ◌∙◌, None, ap, rules, sym}
-use Rattle.std.specs.Option.{is_some}
-use Rattle.ptu_audit_lines.proofs.Fields.{outside_duration_not_2, outside_duration_not_3, outside_duration_not_7, outside_duration_read}
+use Rattle.std.proofs.Common.{rules, sym, refl}
+use Rattle.ptu_audit_lines.proofs.Fields.{outside_duration_fits, readers}
 use Rattle.ptu_audit_lines.proofs.reading.outside_duration.Goals as goal
 
 pub returns-in_err-literal : goal.returns-in_err-literal
-returns-in_err-literal c =
-    let none : c.from_residual.result ≡ None = search rules in
-    none ∙ sym (outside_duration_not_2 c.args.line.now c.requires (sym c.in_err-literal.ensures))
-
-pub returns-in_err-literal-2 : goal.returns-in_err-literal-2
-returns-in_err-literal-2 c =
-    let none : c.from_residual-in_err-literal-2.result ≡ None = search rules in
-    none ∙ sym (outside_duration_not_3 c.args.line.now c.requires (sym c.in_err-literal-2.ensures))
-
-pub returns-in_err-no_word : goal.returns-in_err-no_word
-returns-in_err-no_word c =
-    let none : c.from_residual-in_err-no_word.result ≡ None = search rules in
-    none ∙ sym (outside_duration_not_7 c.args.line.now c.requires (sym c.in_err-no_word.ensures))
+unfolding readers
+returns-in_err-literal c = rw (outside_duration_fits c.args.line.now c.requires, sym c.in_err-literal.ensures) (search rules)
 
 pub returns : goal.returns
-returns c = sym (outside_duration_read c.args.line.now c.in_ok-kind.kind c.in_ok-log.log c.in_ok-seconds.seconds c.requires
-    (ap is_some (sym c.in_ok-literal.ensures)) (ap is_some (sym c.in_ok-literal-2.ensures)) (sym c.in_ok-kind.ensures) (sym c.in_ok-log.ensures) (sym c.in_ok-seconds.ensures) (ap is_some (sym c.in_ok-no_word.ensures)))
+unfolding readers
+returns c = rw (outside_duration_fits c.args.line.now c.requires, sym c.in_ok-literal.ensures, sym c.in_ok-literal-2.ensures, sym c.in_ok-kind.ensures, sym c.in_ok-log.ensures.value, c.in_ok-log.ensures.octet, sym c.in_ok-seconds.ensures, sym c.in_ok-no_word.ensures) refl

@@ -4,8 +4,8 @@ use Rattle.ptu_lines.specs.Words.{int_within}
 use Rattle.ptu_audit_lines.proofs.Logs.{log_of_kind_wide}
 use Rattle.ptu_audit_lines.proofs.words.log_of.Goals as goal
 
-pub returns : goal.returns
-returns c =
+pub returns-clause-value : goal.returns-clause-value
+returns-clause-value c =
     let kind = c.args.kind in
     let value : c.of_kind.result ≡ int_within (least_log kind) (pos 4) c.in_ok-value.value = search rules in
     value
