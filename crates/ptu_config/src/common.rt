@@ -11,6 +11,9 @@ use crate::values::{address, identity, whole, whole_or};
 use ptu_units::{Domain, PortNumber, UdpPortNumber};
 use toml::Table;
 
+/// How often the rounds are done over at most.
+const MOST_REPEATS: u32 = 1000;
+
 /// The settings of both nodes.
 #[derive(Clone, Copy)]
 pub(crate) struct Common {
@@ -38,7 +41,7 @@ pub(crate) fn common_of(table: &Table) -> Result<Common, SettingFault>
     let port = port(table)?;
     let domain = domain(table)?;
     let rounds = whole(table, Key::Rounds, 1, u32::MAX)?;
-    let repeat = whole_or(table, Key::Repeat, 1, 1000, 1)?;
+    let repeat = whole_or(table, Key::Repeat, 1, MOST_REPEATS, 1)?;
     Ok(Common {
         ip,
         event_port,

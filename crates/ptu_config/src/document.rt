@@ -11,7 +11,7 @@ use std::alloc::Global;
 use toml::Table;
 
 /// The most octets of settings.
-const LONGEST_SETTINGS: usize = 65536;
+pub(crate) const LONGEST_SETTINGS: usize = 65536;
 
 // The name is that of one of these settings.
 fn is_name(keys: &[Key], name: &str) -> bool

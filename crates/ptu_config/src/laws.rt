@@ -65,15 +65,15 @@ pub fn settings_of_a_grandmaster()
         ≡ None }
     ensures other_type { table_refusal gm_keys (gm_with (codes "two_step") (integer (pos 1)))
         ≡ Some (SettingFault.Bad Key.TwoStep) }
-    ensures repeated { (table_refusal gm_keys (gm_with (codes "repeat") (integer (pos 1000))) ≡ None)
-        × (setting_of (gm_with (codes "repeat") (integer (pos 1000))) Key.Repeat
+    ensures repeated { (table_refusal gm_keys (gm_with (codes "repeat") (integer (pos 1000)))
+        ≡ None) × (setting_of (gm_with (codes "repeat") (integer (pos 1000))) Key.Repeat
         ≡ Some (number 1000)) }
     ensures repeated_never { table_refusal gm_keys (gm_with (codes "repeat") (integer (pos 0)))
         ≡ Some (SettingFault.Bad Key.Repeat) }
-    ensures repeated_too_often { table_refusal gm_keys (gm_with (codes "repeat") (integer (pos 1001)))
-        ≡ Some (SettingFault.Bad Key.Repeat) }
-    ensures repeated_by_a_text { table_refusal gm_keys (gm_with (codes "repeat") (string (codes "2")))
-        ≡ Some (SettingFault.Bad Key.Repeat) }
+    ensures repeated_too_often { table_refusal gm_keys
+        (gm_with (codes "repeat") (integer (pos 1001))) ≡ Some (SettingFault.Bad Key.Repeat) }
+    ensures repeated_by_a_text { table_refusal gm_keys
+        (gm_with (codes "repeat") (string (codes "2"))) ≡ Some (SettingFault.Bad Key.Repeat) }
     ensures no_delay_resp { setting_of no_members Key.LogDelay ≡ Some nothing }
 {}
 

@@ -5,12 +5,13 @@ ghost use Rattle.std.specs.Io.KnownBytes.{IsAtEnd, prepend_known};
 ghost use Rattle.ptu_outside.specs.{Ends.{CountsEnd, StopsAtEnd}, Faults.{HasRisen}};
 ghost use Rattle.ptu_config.specs.Reading.{CountsRead, HasTaken, HasTakenSome, IsNoRefusal};
 
+use crate::document::LONGEST_SETTINGS;
 use crate::setup_fault::SetupFault;
 use ptu_outside::{Failed, Source};
 use std::alloc::Global;
 
 /// How many octets are read at most: one more than settings may have.
-const MOST: usize = 65537;
+const MOST: usize = LONGEST_SETTINGS + 1;
 
 // Reads once, behind the octets before the place `at`.
 fn read_behind<S: Source>(source: &mut S, octets: &mut [u8], at: usize) -> Result<usize, Failed>
