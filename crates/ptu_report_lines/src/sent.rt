@@ -1,6 +1,6 @@
 //! Datagrams that the nodes of a script sent, owned or borrowed, and the line of each.
 
-ghost use Rattle.std.specs.{Prelude.{◌≡◌, ◌++◌, codes}, Fmt.{decimal}};
+ghost use Rattle.std.specs.{Prelude.{◌≡◌, ◌++◌, [], codes}, Fmt.{decimal}};
 ghost use Rattle.ptu_texts.specs.Texts.{address_text};
 ghost use Rattle.ptu_report_lines.specs.{Statements.{channel_text}, Report.{line_text}};
 ghost use Rattle.ptu_report_lines.specs.declared.report_line.ReportLine.TheVariants as lines;
@@ -121,26 +121,28 @@ pub struct SentLine<'a> {
 }
 
 impl SentLine<'_> {
-    // What stands before the digits, piece by piece, since most lines of a report are such.
-    fn head(&self) -> LineText
-        ensures { result.text ≡ decimal self.now.number ++ (codes " send "
+    // Puts what stands before the digits into an empty line, piece by piece, since most lines of a
+    // report are such.
+    #[inline(always)]
+    fn put_head(&self, line: &mut LineText)
+        requires empty { line.old.text ≡ [] }
+        requires room { line.old.room ≡ 160 }
+        ensures { line.new.text ≡ decimal self.now.number ++ (codes " send "
             ++ (decimal self.now.datagram ++ (codes " "
             ++ (address_text self.now.sent.from ++ (codes " "
             ++ (address_text self.now.sent.to ++ (codes " "
             ++ (channel_text self.now.sent.channel ++ codes " ")))))))) }
     {
-        let mut line = LineText::new();
         line.put_str(" ");
-        ChannelText(self.sent.channel()).put(&mut line);
+        ChannelText(self.sent.channel()).put(line);
         line.put_str(" ");
-        AddressText(self.sent.to()).put(&mut line);
+        AddressText(self.sent.to()).put(line);
         line.put_str(" ");
-        AddressText(self.sent.from()).put(&mut line);
+        AddressText(self.sent.from()).put(line);
         line.put_str(" ");
         line.put_number(self.datagram);
         line.put_str(" send ");
         line.put_number(self.number);
-        line
     }
 }
 
@@ -148,7 +150,9 @@ impl Text for SentLine<'_> {
     ghost text = { λ l. line_text (lines.At l.number (statements.Sent l.datagram l.sent)) };
 
     fn put(&self, draft: &mut Draft) -> Result<(), OutOfMemory> {
-        draft.put_line(&self.head())?;
+        let mut line = LineText::new();
+        self.put_head(&mut line);
+        draft.put_line(&line)?;
         draft.put_digits(self.sent.octets())?;
         draft.put_octets(b"\n")
     }

@@ -18,7 +18,7 @@ returns-clause-put c =
     let line = c.args.self.now in
     let sent = line.sent in
     let old = c.args.draft.now.text in
-    let head = c.in_ok-put_line.ensures.put ∙ ap (λ (t : List ℕ). old ++ t) c.head.ensures in
+    let head = c.in_ok-put_line.ensures.put ∙ ap (λ (t : List ℕ). old ++ t) c.put_head.ensures in
     let digits =
     c.in_ok-put_digits.ensures.put
     ∙ ap (λ (octets : List ℕ). c.put_line.new.self.text ++ encode_lower octets) c.octets.ensures
