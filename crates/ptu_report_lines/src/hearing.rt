@@ -1,6 +1,6 @@
 //! The lines of a report about messages that a slave accepted.
 
-ghost use Rattle.std.specs.{Prelude.{◌≡◌, ◌≤◌, ◌+◌, ◌++◌, ◌∷◌, [], codes, length}, Fmt.{decimal}};
+ghost use Rattle.std.specs.{Prelude.{◌≡◌, ◌≤◌, ◌+◌, ◌++◌, ◌∷◌, [], codes}, Fmt.{decimal}};
 ghost use Rattle.ptu_texts.specs.Texts.{address_text};
 ghost use Rattle.ptu_report_lines.specs.Statements.{hearing_text, words_text};
 
@@ -39,7 +39,10 @@ impl LinePart for Hearing {
                 ],
                 line,
             ),
-            Hearing::Sync { master, seq, at } => put_numbered("sync", master, seq, at, line),
+            Hearing::Sync { master, seq, at } => {
+                put_numbered(master, seq, at, line);
+                line.put_str("sync ");
+            }
             Hearing::FollowUp { master, at } => put_words(
                 &[
                     Word::Name("follow_up"),
@@ -50,29 +53,23 @@ impl LinePart for Hearing {
                 line,
             ),
             Hearing::DelayResp { master, seq, at } => {
-                put_numbered("delay_resp", master, seq, at, line);
+                put_numbered(master, seq, at, line);
+                line.put_str("delay_resp ");
             }
         }
     }
 }
 
-// Puts what was heard of a master with this sequenceId.
-fn put_numbered(name: &'static str, master: u32, seq: u16, at: Moment, line: &mut LineText)
-    requires short { length name.now ≤ 10 }
-    requires room { 80 ≤ line.old.room }
-    ensures text { line.new.text ≡ words_text (name.now ∷ address_text master ∷ codes "seq"
-        ∷ decimal seq ∷ codes "at" ∷ decimal at ∷ []) ++ line.old.text }
-    ensures room { line.old.room ≤ line.new.room + 80 }
+// Puts what was heard of a master with this sequenceId, piece by piece, since there are many.
+fn put_numbered(master: u32, seq: u16, at: Moment, line: &mut LineText)
+    requires { 69 ≤ line.old.room }
+    ensures text { line.new.text ≡ words_text (address_text master ∷ codes "seq" ∷ decimal seq
+        ∷ codes "at" ∷ decimal at ∷ []) ++ line.old.text }
+    ensures room { line.old.room ≤ line.new.room + 69 }
 {
-    put_words(
-        &[
-            Word::Name(name),
-            Word::Address(master),
-            Word::Name("seq"),
-            Word::Number(u64::from(seq)),
-            Word::Name("at"),
-            Word::Number(at.nanos()),
-        ],
-        line,
-    );
+    line.put_number(at.nanos());
+    line.put_str(" at ");
+    line.put_number(u64::from(seq));
+    line.put_str(" seq ");
+    Word::Address(master).put(line);
 }

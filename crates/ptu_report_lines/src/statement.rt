@@ -154,21 +154,17 @@ fn put_shed(kind: Kind, log: Log, client: &Client, line: &mut LineText)
     );
 }
 
-// Puts what a slave selects before what stands.
+// Puts what a slave selects before what stands, piece by piece, since there are many.
 fn put_selected(slave: u32, master: Option<u32>, line: &mut LineText)
     requires { 42 ≤ line.old.room }
     ensures text { line.new.text
         ≡ statement_text (statements.Selected slave master) ++ line.old.text }
     ensures room { line.old.room ≤ line.new.room + 42 }
 {
-    put_words(
-        &[
-            Word::Name("selected"),
-            Word::Address(slave),
-            Word::Selected(master),
-        ],
-        line,
-    );
+    Word::Selected(master).put(line);
+    line.put_str(" ");
+    Word::Address(slave).put(line);
+    line.put_str("selected ");
 }
 
 // Puts what a slave heard before what stands.

@@ -38,6 +38,7 @@ impl LinePart for Word {
 
     ghost most = { λ w. most w };
 
+    #[inline(always)]
     fn put(self, line: &mut LineText) {
         match self {
             Word::Name(name) => line.put_str(name),

@@ -79,11 +79,11 @@ impl LinePart for KindText {
     ghost most = { λ _. 10 };
 
     fn put(self, line: &mut LineText) {
-        line.put_str(match self.0 {
-            Kind::Announce => "announce",
-            Kind::Sync => "sync",
-            Kind::DelayResp => "delay_resp",
-        });
+        match self.0 {
+            Kind::Announce => line.put_str("announce"),
+            Kind::Sync => line.put_str("sync"),
+            Kind::DelayResp => line.put_str("delay_resp"),
+        }
     }
 }
 
