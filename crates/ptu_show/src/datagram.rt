@@ -1,6 +1,6 @@
 //! A datagram in words.
 
-ghost use Rattle.std.specs.Prelude.{◌≡◌, ◌≤◌, ◌+◌, ◌++◌, OnOk, codes};
+ghost use Rattle.std.specs.Prelude.{◌≡◌, ◌≤◌, ◌+◌, ◌++◌, [], OnOk, codes};
 ghost use Rattle.std.specs.{Fmt.{decimal}, List.{flat_map}};
 ghost use Rattle.ptu_messages.specs.declared.message.Body.TheVariants as bodies;
 ghost use Rattle.ptu_texts.specs.Texts.{identity_text};
@@ -182,9 +182,12 @@ pub struct MessageText<'a> {
 }
 
 impl MessageText<'_> {
-    // What stands before the body, behind the number of a line.
-    fn head(&self, number: u64) -> LineText
-        ensures { result.text ≡ decimal number ++ (codes " "
+    // Puts what stands before the body, behind the number of a line, into an empty line.
+    #[inline(always)]
+    fn put_head(&self, number: u64, line: &mut LineText)
+        requires empty { line.old.text ≡ [] }
+        requires room { line.old.room ≡ 160 }
+        ensures { line.new.text ≡ decimal number ++ (codes " "
             ++ (type_text self.now.message.now.header.message_type ++ (codes " length "
             ++ (decimal self.now.length ++ (codes " domain "
             ++ (decimal self.now.message.now.header.domain ++ (codes " from "
@@ -192,19 +195,17 @@ impl MessageText<'_> {
             ++ decimal self.now.message.now.header.sequence))))))))) }
     {
         let header = &self.message.header;
-        let mut line = LineText::new();
         line.put_number(u64::from(header.sequence));
         line.put_str(" seq ");
-        IdentityText(header.source).put(&mut line);
+        IdentityText(header.source).put(line);
         line.put_str(" from ");
         line.put_octet(header.domain);
         line.put_str(" domain ");
         line.put_number(u64::from(self.length));
         line.put_str(" length ");
-        TypeText(header.message_type).put(&mut line);
+        TypeText(header.message_type).put(line);
         line.put_str(" ");
         line.put_number(number);
-        line
     }
 
     /// Puts the line of the message behind the octets of the draft, with the number of the line of
@@ -217,7 +218,9 @@ impl MessageText<'_> {
             ++ numbered_line number (message_text self.now.length self.now.message.now)) }
         ensures done { draft.new.done ≡ draft.old.done }
     {
-        draft.put_line(&self.head(number))?;
+        let mut line = LineText::new();
+        self.put_head(number, &mut line);
+        draft.put_line(&line)?;
         BodyText(&self.message.body).put(draft)?;
         draft.put_octets(b"\n")
     }

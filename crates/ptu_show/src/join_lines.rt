@@ -1,6 +1,6 @@
 //! The lines that `join` writes.
 
-ghost use Rattle.std.specs.Prelude.{◌≡◌, ◌++◌, OnOk, codes};
+ghost use Rattle.std.specs.Prelude.{◌≡◌, ◌++◌, [], OnOk, codes};
 ghost use Rattle.hex.specs.Hex.{encode_lower};
 ghost use Rattle.ptu_show.specs.{JoinLines.{join_line_text}, Shown.{numbered_line}};
 
@@ -34,7 +34,9 @@ impl Text for JoinLine<'_> {
     fn put(&self, draft: &mut Draft) -> Result<(), OutOfMemory> {
         let mut line = LineText::new();
         match *self {
-            JoinLine::Pair { number, sync } => return put_pair(number, &sync, draft),
+            JoinLine::Pair { number, sync } => {
+                return put_pair(number, &sync, &mut line, draft);
+            }
             JoinLine::Overflow { number } => {
                 line.put_str(" overflow\n");
                 line.put_number(number);
@@ -65,16 +67,23 @@ impl Text for JoinLine<'_> {
     }
 }
 
-// Puts the line of a half that joins.
-fn put_pair(number: u64, sync: &OctetsText<'_>, draft: &mut Draft) -> Result<(), OutOfMemory>
+// Puts the line of a half that joins, the first part of it into an empty line.
+#[inline(always)]
+fn put_pair(
+    number: u64,
+    sync: &OctetsText<'_>,
+    line: &mut LineText,
+    draft: &mut Draft,
+) -> Result<(), OutOfMemory>
+    requires empty { line.old.text ≡ [] }
+    requires room { line.old.room ≡ 160 }
     ensures put { OnOk result (draft.new.text
         ≡ draft.old.text ++ numbered_line number (codes "pair " ++ encode_lower sync.now.0.now)) }
     ensures done { draft.new.done ≡ draft.old.done }
 {
-    let mut line = LineText::new();
     line.put_str(" pair ");
     line.put_number(number);
-    draft.put_line(&line)?;
+    draft.put_line(line)?;
     sync.put(draft)?;
     draft.put_octets(b"\n")
 }
