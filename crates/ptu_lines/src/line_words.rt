@@ -105,22 +105,21 @@ fn next_space(text: &[u8]) -> Option<usize>
     Some(SHORT_WORD + size)
 }
 
-// The ends of the first words of a line, and how many words it has.
+// Finds the ends of the first words of a line, and how many words it has.
 #[inline(always)]
-fn ends(line: &[u8]) -> ([usize; MOST_WORDS], usize)
-    ensures { HasEnds line.now result.0 result.1 }
+fn find_ends(line: &[u8], ends: &mut [usize; MOST_WORDS]) -> usize
+    ensures { HasEnds line.now ends.new result }
 {
-    let mut ends = [0; MOST_WORDS];
     let mut count = 0;
     let mut from = 0;
     while let Some(size) = next_space(&line[from..]) {
         let end = from + size;
-        keep_end(&mut ends, count, end);
+        keep_end(ends, count, end);
         count += 1;
         from = end + 1;
     }
-    keep_end(&mut ends, count, line.len());
-    (ends, count + 1)
+    keep_end(ends, count, line.len());
+    count + 1
 }
 
 impl<'a> WordList<'a> {
@@ -129,7 +128,8 @@ impl<'a> WordList<'a> {
     pub fn new(line: &'a [u8]) -> WordList<'a>
         ensures { result ≡ line.now }
     {
-        let (ends, count) = ends(line);
+        let mut ends = [0; MOST_WORDS];
+        let count = find_ends(line, &mut ends);
         WordList { line, ends, count }
     }
 

@@ -2,7 +2,7 @@ use Rattle.std.proofs.Common.{◌≡◌, ◌-◌, ℕ, List, length, take, drop,
 use Rattle.std.proofs.lemmas.List.{take_all, length-drop}
 use Rattle.ptu_lines.proofs.Separators.{cut_placed, none_placed}
 use Rattle.ptu_lines.proofs.WordCutting.{is_space, cut_all, cut_more}
-use Rattle.ptu_lines.proofs.line_words.ends.Goals as goal
+use Rattle.ptu_lines.proofs.line_words.find_ends.Goals as goal
 
 pub loop-size-preserved : goal.loop-size-preserved
 loop-size-preserved c =
