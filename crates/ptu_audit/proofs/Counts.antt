@@ -8,7 +8,7 @@ use Rattle.ptu_audit.specs.declared.deed.Act.{Act}
 use Rattle.ptu_audit.specs.declared.deed.Deed.TheVariants as deeds
 use Rattle.ptu_audit.specs.declared.{deed.Finding.{Finding}, line.Line.{Line}, line.Said.{Said}}
 use Rattle.ptu_audit.specs.declared.line.Said.TheVariants as said
-use Rattle.ptu_audit.specs.Groups.{act_at, acts_by, acts_of, answered, answered_by, answered_client, are_answered, are_told, changed, decides, groups_of, in_front, is_of_script, last_apart, message_at, messages_in as messages_told, said_deed, shedding_of, sheddings, with_line}
+use Rattle.ptu_audit.specs.Groups.{act_at, acts_by, acts_of, answered_acts, answered_client, are_few_and_answered, are_told, changed, decided_acts, decides, groups_of, in_front, is_of_script, last_apart, message_at, messages_in as messages_told, said_deed, shedding_of, sheddings, with_line}
 use Rattle.ptu_units.specs.Counts.{counted}
 use Rattle.ptu_audit.specs.Trails.{acts_in, audit_answer_by, audit_answer_of, as_counted, grant_acts_in, groups_finding, is_grant_deed, is_message, message_acts_in}
 
@@ -34,25 +34,25 @@ apart_few (line ∷ rest) = at (last_apart rest) (apart_few rest)
     at None few = omega arith
     at (Some parts) few = omega (arith, few)
 
-answered_by_few : (asked : List Line) (s : Said) → HasFew (length asked) (answered_by asked s)
-answered_by_few asked (said.Signaled from to target list) = at (are_answered asked list)
+answered_acts_few : (asked : List Line) (s : Said) → HasFew (length asked) (answered_acts asked s)
+answered_acts_few asked (said.Signaled from to target list) = at (are_few_and_answered asked list)
   where
     at : (b : Bool) → HasFew (length asked) (cond b (Some (filter_map (λ line. act_at line from (said_deed (answered_client to target) line.said)) asked)) None)
     at true = no_longer (λ (line : Line). act_at line from (said_deed (answered_client to target) line.said)) asked
     at false = tt
-answered_by_few asked (said.Decided d) = tt
-answered_by_few asked (said.Change grandmaster capacity at) = tt
-answered_by_few asked (said.Shed kind c) = tt
-answered_by_few asked (said.Timed from to kind stamp) = tt
-answered_by_few asked said.Other = tt
+answered_acts_few asked (said.Decided d) = tt
+answered_acts_few asked (said.Change grandmaster capacity at) = tt
+answered_acts_few asked (said.Shed kind c) = tt
+answered_acts_few asked (said.Timed from to kind stamp) = tt
+answered_acts_few asked said.Other = tt
 
 more_few : (m n : ℕ) (told : Option (List Act)) → m ≤ n → HasFew m told → HasFew n told
 more_few m n None le few = tt
 more_few m n (Some acts) le few = omega (arith, le, few)
 
-answered_few : (n : ℕ) (parts : Option (List Line × Line)) → IfSome parts (λ p. length p.0 ≤ n) → HasFew n (answered parts)
-answered_few n None few = tt
-answered_few n (Some parts) few = more_few (length parts.0) n (answered_by parts.0 parts.1.said) few (answered_by_few parts.0 parts.1.said)
+decided_acts_few : (n : ℕ) (parts : Option (List Line × Line)) → IfSome parts (λ p. length p.0 ≤ n) → HasFew n (decided_acts parts)
+decided_acts_few n None few = tt
+decided_acts_few n (Some parts) few = more_few (length parts.0) n (answered_acts parts.0 parts.1.said) few (answered_acts_few parts.0 parts.1.said)
 
 changed_few : (number g capacity at n : ℕ) (rest : List Line) → HasFew (n + 1) (changed number g capacity at rest)
 changed_few number g capacity at n rest = by (are_told g rest)
@@ -69,7 +69,7 @@ messages_few group = at (list_any (λ line. decides line.said) group)
     at false = no_longer (λ (line : Line). message_at line.number line.said) group
 
 acts_by_few : (line : Line) (rest : List Line) (s : Said) → HasFew (length (line ∷ rest)) (acts_by line rest s)
-acts_by_few line rest (said.Decided d) = answered_few (length (line ∷ rest)) (last_apart (line ∷ rest)) (apart_few (line ∷ rest))
+acts_by_few line rest (said.Decided d) = decided_acts_few (length (line ∷ rest)) (last_apart (line ∷ rest)) (apart_few (line ∷ rest))
 acts_by_few line rest (said.Change grandmaster capacity at) = more_few (length rest + 1) (length (line ∷ rest)) (changed line.number grandmaster capacity at rest) (omega arith) (changed_few line.number grandmaster capacity at (length rest) rest)
 acts_by_few line rest (said.Shed kind c) = messages_few (line ∷ rest)
 acts_by_few line rest (said.Signaled from to target list) = messages_few (line ∷ rest)

@@ -23,7 +23,7 @@ use Rattle.ptu_audit.specs.declared.line.Said.TheVariants as said
 use Rattle.ptu_audit.specs.declared.deed.{Act.{Act}, Deed.{Deed}}
 use Rattle.ptu_audit.specs.declared.deed.Deed.TheVariants as deeds
 use Rattle.ptu_audit.specs.Lines.{said_by}
-use Rattle.ptu_audit.specs.Groups.{act_at, acts_by, acts_of, answered, answered_by, answered_client, are_answered, are_told, changed, decides, deed_of, groups_of, is_of_script, last_apart, message_at, messages_in, said_deed, sheddings, shedding_of, with_line, in_front}
+use Rattle.ptu_audit.specs.Groups.{act_at, acts_by, acts_of, answered_acts, answered_client, are_few_and_answered, are_told, changed, decided_acts, decides, deed_of, groups_of, is_of_script, last_apart, message_at, messages_in, said_deed, sheddings, shedding_of, with_line, in_front}
 use Rattle.ptu_audit.specs.{Texts.{answer_text, refusal_text}, declared.answer.Answer.{Answer}}
 use Rattle.ptu_audit.specs.declared.answer.Answer.TheVariants as answers
 use Rattle.ptu_audit.specs.declared.deed.Finding.{Finding}
@@ -113,11 +113,11 @@ apart_in (line ∷ rest) h = at (last_apart rest) (apart_in rest h.1)
     at None k = tt
     at (Some parts) k = (h.0, k)
 
-answered_by_in : (asked : List Line) (s : Said) → AreLines asked → IfSome (answered_by asked s) AreActs
-answered_by_in asked (said.Decided d) h = tt
-answered_by_in asked (said.Change grandmaster capacity at) h = tt
-answered_by_in asked (said.Shed kind c) h = tt
-answered_by_in asked (said.Signaled from to target list) h = at (are_answered asked list)
+answered_acts_in : (asked : List Line) (s : Said) → AreLines asked → IfSome (answered_acts asked s) AreActs
+answered_acts_in asked (said.Decided d) h = tt
+answered_acts_in asked (said.Change grandmaster capacity at) h = tt
+answered_acts_in asked (said.Shed kind c) h = tt
+answered_acts_in asked (said.Signaled from to target list) h = at (are_few_and_answered asked list)
   where
     told : List Act
     told = filter_map (λ line. act_at line from (said_deed (answered_client to target) line.said)) asked
@@ -125,12 +125,12 @@ answered_by_in asked (said.Signaled from to target list) h = at (are_answered as
     at : (b : Bool) → IfSome (cond b (Some told) None) AreActs
     at true = all_mapped (λ (l : Line). IsSaidInRange l.said) (λ (act : Act). IsDeed act.deed) (λ line. act_at line from (said_deed (answered_client to target) line.said)) (λ line k. act_in line from (said_deed (answered_client to target) line.said) (said_deed_in (answered_client to target) line.said k)) asked h
     at false = tt
-answered_by_in asked (said.Timed from to kind stamp) h = tt
-answered_by_in asked said.Other h = tt
+answered_acts_in asked (said.Timed from to kind stamp) h = tt
+answered_acts_in asked said.Other h = tt
 
-answered_in : (parts : Option (List Line × Line)) → IfSome parts (λ p. AreLines p.0) → IfSome (answered parts) AreActs
-answered_in None h = tt
-answered_in (Some parts) h = answered_by_in parts.0 parts.1.said h
+decided_acts_in : (parts : Option (List Line × Line)) → IfSome parts (λ p. AreLines p.0) → IfSome (decided_acts parts) AreActs
+decided_acts_in None h = tt
+decided_acts_in (Some parts) h = answered_acts_in parts.0 parts.1.said h
 
 changed_in : (number g capacity at : ℕ) (rest : List Line) → IfSome (changed number g capacity at rest) AreActs
 changed_in number g capacity at rest = by (are_told g rest)
@@ -155,7 +155,7 @@ messages group h = at (list_any (λ line. decides line.said) group)
     at false = all_mapped (λ (l : Line). IsSaidInRange l.said) (λ (act : Act). IsDeed act.deed) (λ line. message_at line.number line.said) (λ line k. message_in line.number line.said) group h
 
 acts_by_in : (line : Line) (rest : List Line) (s : Said) → AreLines (line ∷ rest) → IfSome (acts_by line rest s) AreActs
-acts_by_in line rest (said.Decided d) h = answered_in (last_apart (line ∷ rest)) (apart_in (line ∷ rest) h)
+acts_by_in line rest (said.Decided d) h = decided_acts_in (last_apart (line ∷ rest)) (apart_in (line ∷ rest) h)
 acts_by_in line rest (said.Change grandmaster capacity at) h = changed_in line.number grandmaster capacity at rest
 acts_by_in line rest (said.Shed kind c) h = messages (line ∷ rest) h
 acts_by_in line rest (said.Signaled from to target list) h = messages (line ∷ rest) h

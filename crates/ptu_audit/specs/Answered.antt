@@ -45,9 +45,9 @@ answers (decisions.Nothing kind at) tlv = acknowledges (code_of kind) tlv
 answers (decisions.NothingCode code) tlv = acknowledges code tlv
 
 -- the line says a decision, and the TLV answers it
-abbrev pub answers_line : Said → Tlv → Bool
-answers_line (said.Decided decision) tlv = answers decision tlv
-answers_line _ tlv = false
+abbrev pub is_answered_by : Said → Tlv → Bool
+is_answered_by (said.Decided decision) tlv = answers decision tlv
+is_answered_by _ tlv = false
 
 -- the TLVs are the one CANCEL of the code
 abbrev pub cancels : ℕ → List Tlv → Bool

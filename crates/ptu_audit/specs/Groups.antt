@@ -11,7 +11,7 @@ use Rattle.ptu_audit.specs.declared.line.Said.{Said}
 use Rattle.ptu_audit.specs.declared.line.Said.TheVariants as said
 use Rattle.ptu_audit.specs.declared.{line.Line.{Line}, deed.Act.{Act}, deed.Deed.{Deed}}
 use Rattle.ptu_audit.specs.declared.deed.Deed.TheVariants as deeds
-use Rattle.ptu_audit.specs.Answered.{answers_line, tells_of}
+use Rattle.ptu_audit.specs.Answered.{is_answered_by, tells_of}
 
 -- the group has this number of a script's line
 abbrev pub is_of_script : List Line → ℕ → Bool
@@ -58,26 +58,26 @@ act_at line grandmaster None = None
 act_at line grandmaster (Some deed) = Some (record { line = line.number; grandmaster = grandmaster; deed = deed })
 
 -- at most 32 lines are decisions, which these TLVs answer in order
-abbrev pub are_answered : List Line → List Tlv → Bool
-are_answered asked list =
+abbrev pub are_few_and_answered : List Line → List Tlv → Bool
+are_few_and_answered asked list =
     nat_le (length asked) 32 && length asked == length list
-    && list_all (λ pair. answers_line pair.0.said pair.1) (zip asked list)
+    && list_all (λ pair. is_answered_by pair.0.said pair.1) (zip asked list)
 
 -- the client that is answered by a Signaling: the address that it is sent to, and its targetPortIdentity
 abbrev pub answered_client : ℕ → PortIdentity → Client
 answered_client to target = record { ip = to; clock = target.clock; port = target.port }
 
 -- what is done by the decisions that this line answers
-abbrev pub answered_by : List Line → Said → Option (List Act)
-answered_by asked (said.Signaled from to target list) =
-    if are_answered asked list
+abbrev pub answered_acts : List Line → Said → Option (List Act)
+answered_acts asked (said.Signaled from to target list) =
+    if are_few_and_answered asked list
     then Some (filter_map (λ line. act_at line from (said_deed (answered_client to target) line.said)) asked)
     else None
-answered_by asked _ = None
+answered_acts asked _ = None
 
-abbrev pub answered : Option (List Line × Line) → Option (List Act)
-answered None = None
-answered (Some parts) = answered_by parts.0 parts.1.said
+abbrev pub decided_acts : Option (List Line × Line) → Option (List Act)
+decided_acts None = None
+decided_acts (Some parts) = answered_acts parts.0 parts.1.said
 
 -- ---- a group of a change of capacity
 
@@ -128,7 +128,7 @@ messages_in group =
 -- ---- all of them
 
 abbrev pub acts_by : Line → List Line → Said → Option (List Act)
-acts_by first rest (said.Decided decision) = answered (last_apart (first ∷ rest))
+acts_by first rest (said.Decided decision) = decided_acts (last_apart (first ∷ rest))
 acts_by first rest (said.Change grandmaster capacity at) = changed first.number grandmaster capacity at rest
 acts_by first rest _ = messages_in (first ∷ rest)
 

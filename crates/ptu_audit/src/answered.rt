@@ -81,8 +81,8 @@ fn answers(decision: &Decision, tlv: &Tlv) -> bool
 }
 
 /// Whether this says a decision, and the TLV answers it.
-pub(crate) fn answers_line(said: &Said, tlv: &Tlv) -> bool
-    ensures { result ≡ specs.answers_line said.now tlv.now }
+pub(crate) fn is_answered_by(said: &Said, tlv: &Tlv) -> bool
+    ensures { result ≡ specs.is_answered_by said.now tlv.now }
 {
     match said {
         Said::Decided(decision) => answers(decision, tlv),

@@ -45,8 +45,8 @@ pub fn audit<S: Source, K: Sink>(
         AnswerIsWritten K.written K.handed sink.old sink.new result }
     // What was read and written, whatever is answered: where the source failed, nothing.
     ensures ran { HasRunThrough S.Source K.Sink source.old source.new sink.old sink.new audit_rules
-        (first_reading capacity) (λ input. texts_of audit_rules (first_reading capacity) (script_lines input))
-        result }
+        (first_reading capacity)
+        (λ input. texts_of audit_rules (first_reading capacity) (script_lines input)) result }
 {
     // A trail without a fault is sound.
     faultless_so_far();

@@ -2,10 +2,10 @@
 
 ghost use Rattle.std.specs.Prelude.{◌≡◌, ◌∷◌, [], option_map, IfOk, filter_map};
 ghost use Rattle.std.specs.List.{list_all, list_any, zip};
-ghost use Rattle.ptu_audit.specs.Answered.{answers_line as answers_told, tells_of as tells_told};
+ghost use Rattle.ptu_audit.specs.Answered.{is_answered_by as is_answered_by_told, tells_of as tells_told};
 ghost use Rattle.ptu_audit.specs.Groups as specs;
 
-use crate::answered::{answers_line, tells_of};
+use crate::answered::{is_answered_by, tells_of};
 use crate::deed::{Act, Deed, Sheddings};
 use crate::line::{Line, Said};
 use ptu_audit_lines::Decision;
@@ -13,6 +13,7 @@ use ptu_history::Client;
 use ptu_messages::{PortIdentity, Tlv, TlvList};
 use ptu_trail::Shedding;
 use ptu_units::OutOfMemory;
+use ptu_units::sizes::MOST_TLVS;
 use std::alloc::{AllocError, Global};
 
 /// Whether the group has this number of a script's line.
@@ -87,27 +88,31 @@ fn all_decided(
 }
 
 // Whether each line says a decision that the TLV in its place answers.
-fn all_answer(asked: &[Line], list: &[Tlv]) -> bool
-    ensures { result ≡ list_all (λ pair. answers_told pair.0.said pair.1)
+fn are_answered_in_order(asked: &[Line], list: &[Tlv]) -> bool
+    ensures { result ≡ list_all (λ pair. is_answered_by_told pair.0.said pair.1)
         (zip asked.now list.now) }
 {
     asked
         .iter()
         .zip(list)
-        .all(|(line, tlv)| answers_line(&line.said, tlv))
+        .all(|(line, tlv)| is_answered_by(&line.said, tlv))
 }
 
 // Whether at most 32 lines are decisions that the TLVs answer in order.
-fn are_answered(asked: &[Line], list: &[Tlv]) -> bool
-    ensures { result ≡ specs.are_answered asked.now list.now }
+fn are_few_and_answered(asked: &[Line], list: &[Tlv]) -> bool
+    ensures { result ≡ specs.are_few_and_answered asked.now list.now }
 {
-    asked.len() <= 32 && asked.len() == list.len() && all_answer(asked, list)
+    asked.len() <= MOST_TLVS && asked.len() == list.len() && are_answered_in_order(asked, list)
 }
 
 // What the lines tell that are answered by this, or nothing where they are not.
-fn answered_by(alloc: Global, asked: &[Line], said: &Said) -> Result<Option<Vec<Act>>, OutOfMemory>
+fn answered_acts(
+    alloc: Global,
+    asked: &[Line],
+    said: &Said,
+) -> Result<Option<Vec<Act>>, OutOfMemory>
     ensures { IfOk result (λ told. option_map (λ acts. acts.items) told
-        ≡ specs.answered_by asked.now said.now) }
+        ≡ specs.answered_acts asked.now said.now) }
 {
     let Said::Signaled {
         from,
@@ -118,7 +123,7 @@ fn answered_by(alloc: Global, asked: &[Line], said: &Said) -> Result<Option<Vec<
     else {
         return Ok(None);
     };
-    if !are_answered(asked, list.list()) {
+    if !are_few_and_answered(asked, list.list()) {
         return Ok(None);
     }
     let client = Client {
@@ -130,13 +135,13 @@ fn answered_by(alloc: Global, asked: &[Line], said: &Said) -> Result<Option<Vec<
 }
 
 // What a group of decisions on a Signaling tells, or nothing where they are not answered.
-fn answered(alloc: Global, group: &[Line]) -> Result<Option<Vec<Act>>, OutOfMemory>
+fn decided_acts(alloc: Global, group: &[Line]) -> Result<Option<Vec<Act>>, OutOfMemory>
     ensures { IfOk result (λ told. option_map (λ acts. acts.items) told
-        ≡ specs.answered (specs.last_apart group.now)) }
+        ≡ specs.decided_acts (specs.last_apart group.now)) }
 {
     match group.split_last() {
         None => Ok(None),
-        Some((last, asked)) => answered_by(alloc, asked, &last.said),
+        Some((last, asked)) => answered_acts(alloc, asked, &last.said),
     }
 }
 
@@ -289,7 +294,7 @@ pub(crate) fn acts_of(alloc: Global, group: &[Line]) -> Result<Option<Vec<Act>>,
         return Ok(Some(Vec::new(alloc)));
     };
     match first.said {
-        Said::Decided(_) => answered(alloc, group),
+        Said::Decided(_) => decided_acts(alloc, group),
         Said::Change {
             grandmaster,
             capacity,

@@ -86,7 +86,8 @@ impl Ledger {
     // Counts what was done.
     fn count(&mut self, deed: &Deed)
         ensures granted { self.new.granted
-            ≡ (if is_grant_deed deed.now then counted (self.old.granted + 1) else self.old.granted) }
+            ≡ (if is_grant_deed deed.now then counted (self.old.granted + 1)
+            else self.old.granted) }
         ensures sent { self.new.sent
             ≡ (if is_message deed.now then counted (self.old.sent + 1) else self.old.sent) }
         ensures trails { self.new.trails ≡ self.old.trails }
