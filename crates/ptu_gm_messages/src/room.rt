@@ -2,14 +2,17 @@
 
 use crate::item::{Item, Items};
 use ptu_messages::{Body, Message, Tlv};
+use ptu_units::sizes::LONGEST_SIGNALING;
 use std::alloc::Global;
 
-/// Room for the lists of one Signaling, which is kept for those of the next. A clause says nothing
-/// of it.
+/// Room for the lists of one Signaling, and for its answer, which is kept for those of the next. A
+/// clause says nothing of it.
 #[derive(Drop)]
 pub struct HearingRoom {
     pub(crate) tlvs: Vec<Tlv>,
     pub(crate) items: Vec<Item>,
+    /// For the octets of the Signaling that answers.
+    pub reply: [u8; LONGEST_SIGNALING],
 }
 
 impl HearingRoom {
@@ -18,6 +21,7 @@ impl HearingRoom {
         HearingRoom {
             tlvs: Vec::new(alloc),
             items: Vec::new(alloc),
+            reply: [0; LONGEST_SIGNALING],
         }
     }
 

@@ -59,13 +59,15 @@ pub fn reply_of(
     write_reply(config, to, sequence, outcomes.list(), out)
 }
 
-/// Sends the reply to a Signaling with this header, which came from this IPv4 address.
+/// Sends the reply to a Signaling with this header, which came from this IPv4 address. Its octets
+/// take the room.
 pub(crate) fn send_reply<P: Port>(
     port: &mut P,
     config: &GmConfig,
     from: u32,
     header: &Header,
     outcomes: &Outcomes,
+    room: &mut [u8; LONGEST_SIGNALING],
 ) -> Reply
     requires { AreAnswerable (map item_seen outcomes.now) }
     ensures replies { Replies P.Port result port.old port.new
@@ -76,9 +78,8 @@ pub(crate) fn send_reply<P: Port>(
     if outcomes.list().is_empty() {
         return Reply::Nothing;
     }
-    let mut out = [0; LONGEST_SIGNALING];
-    let size = reply_of(config, &header.source, header.sequence, outcomes, &mut out);
-    match hand(port, from, Channel::General, &out[..size]) {
+    let size = reply_of(config, &header.source, header.sequence, outcomes, room);
+    match hand(port, from, Channel::General, &room[..size]) {
         Ok(()) => Reply::Sent,
         Err(_) => Reply::Failed,
     }

@@ -99,7 +99,14 @@ impl<P: Port> Gm<P> {
             Ok(Heard::Asks(header, items)) => {
                 let outcomes = self.decide_asks(t, &client_of(from, &header), items.list())?;
                 self.hearing.keep(items);
-                let reply = send_reply(&mut self.reply, &self.config, from, &header, &outcomes);
+                let reply = send_reply(
+                    &mut self.reply,
+                    &self.config,
+                    from,
+                    &header,
+                    &outcomes,
+                    &mut self.hearing.reply,
+                );
                 Ok(Taken::Asked(outcomes, reply))
             }
         }
