@@ -71,6 +71,7 @@ fn next_lease(former: Option<Lease>, at: Moment, log: Log, until: u64) -> Lease
 }
 
 /// Grants what fits, on the client's table, at a moment that is not before the table's.
+#[inline(always)]
 pub(crate) fn grant<P: Port>(
     shard: &mut Shard<P>,
     book: &mut Book,
@@ -122,6 +123,7 @@ pub(crate) fn grant<P: Port>(
 
 /// Decides an ask within the profile, on the client's table, at the table's moment, where the rows
 /// of no table are over.
+#[inline(never)]
 pub(crate) fn decide_swept<P: Port>(
     shard: &mut Shard<P>,
     book: &mut Book,

@@ -15,6 +15,7 @@ use ptu_lines::WordList;
 use ptu_units::sizes::LONGEST_DATAGRAM;
 
 // What stands behind the first word.
+#[inline(always)]
 fn fields<'a>(
     verb: Verb,
     line: &WordList,
