@@ -4,7 +4,7 @@ use Rattle.std.proofs.lemmas.List.{append-nil, map-append}
 use Rattle.ptu_lines.specs.Script.{ScriptLine, Whole, Refused, script_lines}
 use Rattle.ptu_report.specs.declared.ending.Ending.{Ending}
 use Rattle.ptu_report.specs.Rules.{Goes, Outcome, Refuses, closing, ending_after, ending_at, texts_at, texts_of, texts_until}
-use Rattle.ptu_script.specs.declared.cause.Cause.{Cause}
+use Rattle.ptu_lines.specs.declared.cause.LineCause.{LineCause}
 use Rattle.ptu_script.specs.declared.command.GrandmasterSetup.{GrandmasterSetup}
 use Rattle.ptu_pool_run.specs.{declared.pool.Pool.{Pool}, Events.{PoolEvent, Came, Turned}}
 use Rattle.ptu_pool_run.specs.{Pool.{AreApart}, Refusal.{Share}}
@@ -82,7 +82,7 @@ step_follows None pools events line (commands.Turn t number table) sound = tt
 step_follows (Some setup) [] events line (commands.Turn t number table) sound = tt
 step_follows (Some setup) (pool ∷ pools) events line (commands.Turn t number table) sound = turned_follows (pool ∷ pools) events line setup t number table sound
 
-line_follows : (told : Told) (line : ℕ) (r : Result (Option PoolCommand) Cause) → IsSound told → Follows told (told_outcome told line r)
+line_follows : (told : Told) (line : ℕ) (r : Result (Option PoolCommand) LineCause) → IsSound told → Follows told (told_outcome told line r)
 line_follows told line (Ok None) sound = (sound, append-nil (texts_so_far told))
 line_follows told line (Ok (Some command)) sound = step_follows told.setup told.pools told.events line command sound
 line_follows told line (Err cause) sound = tt

@@ -5,7 +5,7 @@ use Rattle.ptu_lines.specs.Script.{ScriptLine, Whole, Refused}
 use Rattle.ptu_lines.specs.Words.{ip_of, octets_of, words_of}
 use Rattle.ptu_units.specs.Limits.{IsCapacity, greatest_capacity, least_capacity}
 use Rattle.ptu_report.specs.Rules.{Goes, Outcome, Refuses}
-use Rattle.ptu_script.specs.declared.cause.{Cause.{Cause}, Cause.TheVariants.{Count}}
+use Rattle.ptu_lines.specs.declared.cause.{LineCause.{LineCause}, LineCause.TheVariants.{Count}}
 use Rattle.ptu_script.specs.declared.command.GrandmasterSetup.{GrandmasterSetup}
 use Rattle.ptu_script.specs.Command.{grandmaster_in, is_comment, moment_of}
 use Rattle.ptu_script.specs.{Fields.{◌>>=◌, capacity_of, field, from_to}, Limits.{IsGrandmasterWithin}}
@@ -32,7 +32,7 @@ fields_lawful : (verb : PoolVerb) (line : List ℕ) → IfOk (pool_fields_in ver
 unfolding pool_fields_in
 fields_lawful verbs.Gm line = by (grandmaster_in line) (grandmaster_within line)
   where
-    by : (r : Result GrandmasterSetup Cause) → IfOk r IsGrandmasterWithin → IfOk (r >>= λ setup. Ok (commands.Grandmaster setup)) IsLawful
+    by : (r : Result GrandmasterSetup LineCause) → IfOk r IsGrandmasterWithin → IfOk (r >>= λ setup. Ok (commands.Grandmaster setup)) IsLawful
     by (Ok setup) h = h
     by (Err cause) h = tt
 fields_lawful verbs.Pool line = ok_bound IsLawful (field 2 ip_of line) _ (λ net _. ok_bound IsLawful (field 3 (from_to 0 32) line) _ (λ bits _. ok_bound IsLawful (field 4 capacity_of line) _
@@ -48,7 +48,7 @@ command_lawful : (line : List ℕ) → IfOk (pool_command_of line) (λ o. IfSome
 unfolding pool_command_of
 command_lawful line = ok_either (λ o. IfSome o IsLawful) (is_comment line) (Ok None) _ (λ _. tt) (λ _. by _ (by_verb _ line))
   where
-    by : (r : Result PoolCommand Cause) → IfOk r IsLawful → IfOk (r >>= λ command. Ok (Some command)) (λ o. IfSome o IsLawful)
+    by : (r : Result PoolCommand LineCause) → IfOk r IsLawful → IfOk (r >>= λ command. Ok (Some command)) (λ o. IfSome o IsLawful)
     by (Ok command) h = h
     by (Err cause) h = tt
 
@@ -95,7 +95,7 @@ step_keeps None pools events line (commands.Turn t number table) lawful within =
 step_keeps (Some setup) [] events line (commands.Turn t number table) lawful within = tt
 step_keeps (Some setup) (pool ∷ pools) events line (commands.Turn t number table) lawful within = turned_keeps setup (pool ∷ pools) events within line t number table
 
-line_keeps : (told : Told) (line : ℕ) (r : Result (Option PoolCommand) Cause) → IfOk r (λ o. IfSome o IsLawful) → IsWithin told → Keeps (told_outcome told line r)
+line_keeps : (told : Told) (line : ℕ) (r : Result (Option PoolCommand) LineCause) → IfOk r (λ o. IfSome o IsLawful) → IsWithin told → Keeps (told_outcome told line r)
 line_keeps told line (Ok None) lawful within = within
 line_keeps told line (Ok (Some command)) lawful within = step_keeps told.setup told.pools told.events line command lawful within
 line_keeps told line (Err cause) lawful within = tt

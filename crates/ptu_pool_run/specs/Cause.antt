@@ -1,8 +1,7 @@
 -- Why a line of a script of pools is refused, and how that is written (the project's own choice).
 use Rattle.std.specs.{Prelude.{ℕ, List, ◌++◌, codes}, Fmt.{decimal}}
 use Rattle.ptu_lines.specs.declared.cause.LineCause.{LineCause}
-use Rattle.ptu_script.specs.{Cause.{cause_of_line as script_cause}, declared.cause.Cause.{Cause}}
-use Rattle.ptu_script.specs.declared.cause.Cause.TheVariants as scripts
+use Rattle.ptu_lines.specs.declared.cause.LineCause.TheVariants as lines
 use Rattle.ptu_pool_run.specs.declared.cause.PoolCause.{PoolCause}
 use Rattle.ptu_pool_run.specs.declared.cause.PoolCause.TheVariants.{Size, Long, Text, Word, Count, Field, Order, Net, Full, Overlap, Over, Number}
 
@@ -20,20 +19,11 @@ pool_cause_text Overlap = codes "overlap"
 pool_cause_text Over = codes "over"
 pool_cause_text Number = codes "number"
 
--- the cause of the same name; a line that is read names no node and no judge
-abbrev pub cause_of_script : Cause → PoolCause
-cause_of_script scripts.Size = Size
-cause_of_script scripts.Long = Long
-cause_of_script scripts.Text = Text
-cause_of_script scripts.Word = Word
-cause_of_script scripts.Count = Count
-cause_of_script (scripts.Field number) = Field number
-cause_of_script scripts.Order = Order
-cause_of_script scripts.Node = Word
-cause_of_script scripts.Full = Full
-cause_of_script scripts.Number = Number
-cause_of_script scripts.Stock = Word
-
 -- the cause of the same name
 abbrev pub pool_cause_of_line : LineCause → PoolCause
-pool_cause_of_line cause = cause_of_script (script_cause cause)
+pool_cause_of_line lines.Size = Size
+pool_cause_of_line lines.Long = Long
+pool_cause_of_line lines.Text = Text
+pool_cause_of_line lines.Word = Word
+pool_cause_of_line lines.Count = Count
+pool_cause_of_line (lines.Field number) = Field number

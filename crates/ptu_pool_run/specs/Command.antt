@@ -1,7 +1,8 @@
 -- What a line of a script of pools commands, or why it is refused. The forms are the project's own choice.
 use Rattle.std.specs.Prelude.{◌≡◌, ℕ, ◌==◌, if◌then◌else◌, List, [], length, Option, Some, None, Result, Ok, Err, unwrap_or}
 use Rattle.ptu_lines.specs.Words.{words_of, word_of, ip_of, octets_of}
-use Rattle.ptu_script.specs.declared.cause.{Cause.{Cause}, Cause.TheVariants.{Word, Count}}
+use Rattle.ptu_lines.specs.declared.cause.LineCause.{LineCause}
+use Rattle.ptu_lines.specs.declared.cause.LineCause.TheVariants.{Word, Count}
 use Rattle.ptu_script.specs.Fields.{◌>>=◌, capacity_of, field, from_to}
 use Rattle.ptu_script.specs.Command.{grandmaster_in, is_comment, moment_of}
 use Rattle.ptu_pool_run.specs.declared.command.PoolCommand.{PoolCommand}
@@ -11,14 +12,14 @@ use Rattle.ptu_pool_run.specs.declared.verb.PoolVerb.TheVariants.{Gm, Pool, Rx, 
 use Rattle.ptu_pool_run.specs.Verb.{count_of, pool_verb_named}
 
 -- T IP
-abbrev pub pool_moment_in : List ℕ → Result (ℕ × ℕ) Cause
+abbrev pub pool_moment_in : List ℕ → Result (ℕ × ℕ) LineCause
 pool_moment_in line = do
   at ← field 2 moment_of line
   from ← field 3 ip_of line
   Ok (at, from)
 
 -- what stands behind the first word, by the form of its line
-unfoldable pub pool_fields_in : PoolVerb → List ℕ → Result PoolCommand Cause
+unfoldable pub pool_fields_in : PoolVerb → List ℕ → Result PoolCommand LineCause
 pool_fields_in Gm line = do
   setup ← grandmaster_in line
   Ok (commands.Grandmaster setup)
@@ -39,12 +40,12 @@ pool_fields_in Turn line = do
   Ok (commands.Turn at pool table)
 
 -- the command of a line that begins with this word
-abbrev pub pool_command_by : Option PoolVerb → List ℕ → Result PoolCommand Cause
+abbrev pub pool_command_by : Option PoolVerb → List ℕ → Result PoolCommand LineCause
 pool_command_by None line = Err Word
 pool_command_by (Some verb) line = if length (words_of line) == count_of verb then pool_fields_in verb line else Err Count
 
 -- what a line commands, where it commands anything, or why it is refused
-unfoldable pub pool_command_of : List ℕ → Result (Option PoolCommand) Cause
+unfoldable pub pool_command_of : List ℕ → Result (Option PoolCommand) LineCause
 pool_command_of line =
     if is_comment line then Ok None
     else do
@@ -52,5 +53,5 @@ pool_command_of line =
       Ok (Some command)
 
 -- a line is refused for this cause
-abbrev pub IsPoolLineRefused : List ℕ → Cause → Type 0
+abbrev pub IsPoolLineRefused : List ℕ → LineCause → Type 0
 IsPoolLineRefused line cause = pool_command_of line ≡ Err cause

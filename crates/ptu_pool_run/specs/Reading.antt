@@ -1,7 +1,7 @@
 -- What the lines of a script of pools say, and why one is refused, as rules of a program over lines (the project's own choice).
 use Rattle.std.specs.Prelude.{ℕ, ◌-◌, nat_le, if◌then◌else◌, List, [], ◌∷◌, ◌++◌, length, map, Option, Some, None, Result, Ok, Err}
 use Rattle.ptu_report.specs.Rules.{Rules, Outcome, Goes, Refuses}
-use Rattle.ptu_script.specs.declared.cause.Cause.{Cause}
+use Rattle.ptu_lines.specs.declared.cause.LineCause.{LineCause}
 use Rattle.ptu_script.specs.declared.command.GrandmasterSetup.{GrandmasterSetup}
 use Rattle.ptu_pool_run.specs.{declared.pool.Pool.{Pool}, Events.{PoolEvent, Came, Turned}}
 use Rattle.ptu_pool_run.specs.declared.cause.PoolCause.{PoolCause}
@@ -9,7 +9,7 @@ use Rattle.ptu_pool_run.specs.declared.cause.PoolCause.TheVariants.{Order, Numbe
 use Rattle.ptu_pool_run.specs.declared.command.PoolCommand.{PoolCommand}
 use Rattle.ptu_pool_run.specs.declared.command.PoolCommand.TheVariants as commands
 use Rattle.ptu_pool_run.specs.declared.output.PoolLine.TheVariants.{Bad, End}
-use Rattle.ptu_pool_run.specs.{Cause.{pool_cause_of_line, cause_of_script}, Command.{pool_command_of}}
+use Rattle.ptu_pool_run.specs.{Cause.{pool_cause_of_line}, Command.{pool_command_of}}
 use Rattle.ptu_pool_run.specs.{Output.{pool_line_text}, Sending.{lines_of_event}, Selling.{selling_refusal}}
 
 -- an event with the number of its line
@@ -71,10 +71,10 @@ told_after told line (commands.Receive t from octets) = behind_pools told.setup 
 told_after told line (commands.Turn t number table) = behind_pools told.setup told.pools (turned told line t number table)
 
 -- the same by what the line commands
-abbrev pub told_outcome : Told → ℕ → Result (Option PoolCommand) Cause → Outcome Told PoolCause
+abbrev pub told_outcome : Told → ℕ → Result (Option PoolCommand) LineCause → Outcome Told PoolCause
 told_outcome told line (Ok None) = Goes told []
 told_outcome told line (Ok (Some command)) = told_after told line command
-told_outcome told line (Err cause) = Refuses (cause_of_script cause)
+told_outcome told line (Err cause) = Refuses (pool_cause_of_line cause)
 
 -- what the program does: with each line, at the end, and with a line that is refused
 unfoldable pub pool_rules : Rules Told PoolCause

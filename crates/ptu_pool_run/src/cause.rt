@@ -1,10 +1,9 @@
 //! Why a line of a script of pools is refused, with the words that the output uses.
 
 ghost use Rattle.std.specs.Prelude.{◌≡◌, ◌≤◌, ◌+◌, ◌++◌, Some};
-ghost use Rattle.ptu_pool_run.specs.Cause.{pool_cause_of_line, cause_of_script, pool_cause_text};
+ghost use Rattle.ptu_pool_run.specs.Cause.{pool_cause_of_line, pool_cause_text};
 
 use ptu_lines::{LineCause, LinePart, LineText};
-use ptu_script::Cause;
 use std::error::Error;
 use std::fmt;
 
@@ -87,31 +86,18 @@ impl fmt::Display for PoolCause {
 
 impl Error for PoolCause {}
 
-/// Causes of the reader of lines have the same names here.
+/// Causes of the readers of lines and of words have the same names here.
 impl From<LineCause> for PoolCause {
     ghost from_gives = { λ line cause. cause ≡ pool_cause_of_line line };
 
     fn from(cause: LineCause) -> PoolCause {
-        PoolCause::from(Cause::from(cause))
-    }
-}
-
-/// Causes of the readers of words have the same names here. `Node` and `Stock` become `Word`: no
-/// reader of words answers them, since they are of a script with nodes and judges.
-impl From<Cause> for PoolCause {
-    ghost from_gives = { λ found cause. cause ≡ cause_of_script found };
-
-    fn from(cause: Cause) -> PoolCause {
         match cause {
-            Cause::Size => PoolCause::Size,
-            Cause::Long => PoolCause::Long,
-            Cause::Text => PoolCause::Text,
-            Cause::Word | Cause::Node | Cause::Stock => PoolCause::Word,
-            Cause::Count => PoolCause::Count,
-            Cause::Field(number) => PoolCause::Field(number),
-            Cause::Order => PoolCause::Order,
-            Cause::Full => PoolCause::Full,
-            Cause::Number => PoolCause::Number,
+            LineCause::Size => PoolCause::Size,
+            LineCause::Long => PoolCause::Long,
+            LineCause::Text => PoolCause::Text,
+            LineCause::Word => PoolCause::Word,
+            LineCause::Count => PoolCause::Count,
+            LineCause::Field(number) => PoolCause::Field(number),
         }
     }
 }

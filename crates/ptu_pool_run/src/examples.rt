@@ -3,7 +3,7 @@
 
 ghost use Rattle.std.specs.Prelude.{◌≡◌, ◌∷◌, [], Some, None, Ok, codes};
 ghost use Rattle.ptu_world.specs.Samples.{lines_of};
-ghost use Rattle.ptu_script.specs.declared.cause.Cause.TheVariants as causes;
+ghost use Rattle.ptu_lines.specs.declared.cause.LineCause.TheVariants as causes;
 ghost use Rattle.ptu_outside.specs.declared.channel.Channel.TheVariants as channels;
 ghost use Rattle.ptu_pool_run.specs.{Command.{IsPoolLineRefused, pool_command_of}, Output.{pool_line_text}};
 ghost use Rattle.ptu_pool_run.specs.Poured.{poured_texts, told_in};

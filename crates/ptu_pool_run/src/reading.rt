@@ -10,8 +10,7 @@ use crate::Pool;
 use crate::command::PoolCommand;
 use crate::pool_set::MOST;
 use crate::verb::PoolVerb;
-use ptu_lines::WordList;
-use ptu_script::Cause;
+use ptu_lines::{LineCause, WordList};
 use ptu_script::fields::{
     bits_field, capacity_field, ip_field, moment_field, number_field, octets_field,
 };
@@ -21,7 +20,7 @@ use ptu_units::sizes::LONGEST_DATAGRAM;
 
 // `gm IP CLOCK PORT DOMAIN CLASS CAPACITY MAX`
 #[tactic(auto, unfolding(crate::specs::Command::pool_fields_in))]
-fn gm<'a>(line: &WordList) -> Result<PoolCommand<'a>, Cause>
+fn gm<'a>(line: &WordList) -> Result<PoolCommand<'a>, LineCause>
     ensures value { result ≡ pool_fields_in verbs.Gm line.now }
     ensures within { IfOk result IsPoolCommandInRange }
 {
@@ -30,7 +29,7 @@ fn gm<'a>(line: &WordList) -> Result<PoolCommand<'a>, Cause>
 
 // `pool IP BITS N`
 #[tactic(auto, unfolding(crate::specs::Command::pool_fields_in))]
-fn pool<'a>(line: &WordList) -> Result<PoolCommand<'a>, Cause>
+fn pool<'a>(line: &WordList) -> Result<PoolCommand<'a>, LineCause>
     ensures value { result ≡ pool_fields_in verbs.Pool line.now }
     ensures within { IfOk result IsPoolCommandInRange }
 {
@@ -46,7 +45,7 @@ fn pool<'a>(line: &WordList) -> Result<PoolCommand<'a>, Cause>
 
 // `turn T I J`
 #[tactic(auto, unfolding(crate::specs::Command::pool_fields_in))]
-fn turn<'a>(line: &WordList) -> Result<PoolCommand<'a>, Cause>
+fn turn<'a>(line: &WordList) -> Result<PoolCommand<'a>, LineCause>
     ensures value { result ≡ pool_fields_in verbs.Turn line.now }
     ensures within { IfOk result IsPoolCommandInRange }
 {
@@ -61,7 +60,7 @@ fn turn<'a>(line: &WordList) -> Result<PoolCommand<'a>, Cause>
 }
 
 // The words T and IP.
-fn handed(line: &WordList) -> Result<(Moment, u32), Cause>
+fn handed(line: &WordList) -> Result<(Moment, u32), LineCause>
     ensures { result ≡ pool_moment_in line.now }
 {
     let at = moment_field(line, 2)?;
@@ -71,7 +70,10 @@ fn handed(line: &WordList) -> Result<(Moment, u32), Cause>
 
 // `rx T IP HEX`. The octets are put into the room.
 #[tactic(auto, unfolding(crate::specs::Command::pool_fields_in))]
-fn rx<'a>(line: &WordList, room: &'a mut [u8; LONGEST_DATAGRAM]) -> Result<PoolCommand<'a>, Cause>
+fn rx<'a>(
+    line: &WordList,
+    room: &'a mut [u8; LONGEST_DATAGRAM],
+) -> Result<PoolCommand<'a>, LineCause>
     ensures value { result ≡ pool_fields_in verbs.Rx line.now }
     ensures within { IfOk result IsPoolCommandInRange }
 {
@@ -85,7 +87,7 @@ fn fields<'a>(
     verb: PoolVerb,
     line: &WordList,
     room: &'a mut [u8; LONGEST_DATAGRAM],
-) -> Result<PoolCommand<'a>, Cause>
+) -> Result<PoolCommand<'a>, LineCause>
     ensures value { result ≡ pool_fields_in verb line.now }
     ensures within { IfOk result IsPoolCommandInRange }
 {
@@ -98,16 +100,19 @@ fn fields<'a>(
 }
 
 // The command of a line that is no comment.
-fn command<'a>(line: &[u8], room: &'a mut [u8; LONGEST_DATAGRAM]) -> Result<PoolCommand<'a>, Cause>
+fn command<'a>(
+    line: &[u8],
+    room: &'a mut [u8; LONGEST_DATAGRAM],
+) -> Result<PoolCommand<'a>, LineCause>
     ensures value { result
         ≡ pool_command_by (pool_verb_named (unwrap_or (word_of line.now 1) [])) line.now }
     ensures within { IfOk result IsPoolCommandInRange }
 {
     let words = WordList::new(line);
     match PoolVerb::of(words.word(1).unwrap_or(&[])) {
-        None => Err(Cause::Word),
+        None => Err(LineCause::Word),
         Some(verb) if words.count() == verb.count() => fields(verb, &words, room),
-        Some(_) => Err(Cause::Count),
+        Some(_) => Err(LineCause::Count),
     }
 }
 
@@ -123,7 +128,7 @@ fn command<'a>(line: &[u8], room: &'a mut [u8; LONGEST_DATAGRAM]) -> Result<Pool
 pub fn read_pool_command<'a>(
     line: &[u8],
     room: &'a mut [u8; LONGEST_DATAGRAM],
-) -> Result<Option<PoolCommand<'a>>, Cause>
+) -> Result<Option<PoolCommand<'a>>, LineCause>
     ensures value { result ≡ pool_command_of line.now }
     ensures within { IfOk result (λ command. IfSome command IsPoolCommandInRange) }
 {

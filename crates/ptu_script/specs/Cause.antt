@@ -1,5 +1,5 @@
 -- Why a line is refused, and how that is written.
-use Rattle.std.specs.{Prelude.{ℕ, List, ◌++◌, codes}, Fmt.{decimal}}
+use Rattle.std.specs.{Prelude.{ℕ, List, ◌++◌, Result, Ok, Err, codes}, Fmt.{decimal}}
 use Rattle.ptu_lines.specs.declared.cause.LineCause.{LineCause}
 use Rattle.ptu_lines.specs.declared.cause.LineCause.TheVariants as lines
 use Rattle.ptu_script.specs.declared.cause.Cause.{Cause}
@@ -26,3 +26,8 @@ cause_of_line lines.Text = Text
 cause_of_line lines.Word = Word
 cause_of_line lines.Count = Count
 cause_of_line (lines.Field number) = Field number
+
+-- what was read of a line, with its cause by this name
+abbrev pub named : {A : Type 0} → Result A LineCause → Result A Cause
+named (Ok x) = Ok x
+named (Err cause) = Err (cause_of_line cause)

@@ -3,7 +3,9 @@ use Rattle.std.specs.Prelude.{ℕ, ◌-◌, ◌^◌, Bool, true, ◌==◌, if◌
 use Rattle.std.specs.List.{list_any}
 use Rattle.ptu_units.specs.declared.kind.Kind.TheVariants as kinds
 use Rattle.ptu_lines.specs.Words.{words_of, word_of, ip_of, clock_of, octets_of}
-use Rattle.ptu_script.specs.declared.cause.{Cause.{Cause}, Cause.TheVariants.{Word, Count}}
+use Rattle.ptu_lines.specs.declared.cause.LineCause.{LineCause}
+use Rattle.ptu_lines.specs.declared.cause.LineCause.TheVariants.{Word, Count}
+use Rattle.ptu_script.specs.{Cause.{named}, declared.cause.Cause.{Cause}}
 use Rattle.ptu_script.specs.declared.command.GrandmasterSetup.{GrandmasterSetup}
 use Rattle.ptu_script.specs.declared.command.{SlaveSetup.{SlaveSetup}, Command.{Command}}
 use Rattle.ptu_script.specs.declared.act.Act.TheVariants as acts
@@ -19,7 +21,7 @@ abbrev pub moment_of : List ℕ → Option ℕ
 moment_of = from_to 0 (2 ^ 62 - 1)
 
 -- gm IP CLOCK PORT DOMAIN CLASS CAPACITY MAX
-unfoldable pub grandmaster_in : List ℕ → Result GrandmasterSetup Cause
+unfoldable pub grandmaster_in : List ℕ → Result GrandmasterSetup LineCause
 grandmaster_in line = do
   ip ← field 2 ip_of line
   clock ← field 3 clock_of line
@@ -31,11 +33,11 @@ grandmaster_in line = do
   Ok (record { ip = ip; clock = clock; port = port; domain = domain; class = class; capacity = capacity; max_duration = max_duration })
 
 -- the word TD, which a line of 12 words lacks
-abbrev pub delay_timeout_in : List ℕ → Result ℕ Cause
+abbrev pub delay_timeout_in : List ℕ → Result ℕ LineCause
 delay_timeout_in line = if length (words_of line) == 12 then Ok 3 else field 13 timeout_of line
 
 -- slave IP CLOCK PORT DOMAIN WAIT TA TS LA LS LD DUR, and TD where there is a 13th word
-unfoldable pub slave_in : List ℕ → Result SlaveSetup Cause
+unfoldable pub slave_in : List ℕ → Result SlaveSetup LineCause
 slave_in line = do
   ip ← field 2 ip_of line
   clock ← field 3 clock_of line
@@ -62,7 +64,7 @@ slave_in line = do
   })
 
 -- T NODE FROM
-abbrev pub handed_in : List ℕ → Result (ℕ × ℕ × ℕ) Cause
+abbrev pub handed_in : List ℕ → Result (ℕ × ℕ × ℕ) LineCause
 handed_in line = do
   at ← field 2 moment_of line
   node ← field 3 ip_of line
@@ -70,7 +72,7 @@ handed_in line = do
   Ok (at, node, from)
 
 -- what stands behind the first word, by the form of its line
-unfoldable pub fields_in : Verb → List ℕ → Result Command Cause
+unfoldable pub fields_in : Verb → List ℕ → Result Command LineCause
 fields_in Gm line = do
   setup ← grandmaster_in line
   Ok (commands.Grandmaster setup)
@@ -133,7 +135,7 @@ abbrev pub has_count : List ℕ → List ℕ → Bool
 has_count counts line = list_any (λ count. count == length (words_of line)) counts
 
 -- the command of a line that begins with this word
-abbrev pub command_by : Option Verb → List ℕ → Result Command Cause
+abbrev pub command_by : Option Verb → List ℕ → Result Command LineCause
 command_by None line = Err Word
 command_by (Some verb) line = if has_count (counts_of verb) line then fields_in verb line else Err Count
 
@@ -147,5 +149,5 @@ unfoldable pub command_of : List ℕ → Result (Option Command) Cause
 command_of line =
     if is_comment line then Ok None
     else do
-      command ← command_by (verb_named (unwrap_or (word_of line 1) [])) line
+      command ← named (command_by (verb_named (unwrap_or (word_of line 1) [])) line)
       Ok (Some command)

@@ -9,20 +9,21 @@ use Rattle.ptu_units.specs.Limits.{least_port, greatest_port, least_timeout, gre
 use Rattle.ptu_lines.specs.Words.{word_of, number_within, log_within, is_dash}
 use Rattle.ptu_record.specs.declared.rule.Rule.{Rule}
 use Rattle.ptu_record.specs.declared.rule.Rule.TheVariants as rules
-use Rattle.ptu_script.specs.declared.cause.{Cause.{Cause}, Cause.TheVariants.{Field}}
+use Rattle.ptu_lines.specs.declared.cause.LineCause.{LineCause}
+use Rattle.ptu_lines.specs.declared.cause.LineCause.TheVariants.{Field}
 
 infixl 10 ◌>>=◌
-abbrev pub ◌>>=◌ : {A B : Type 0} → Result A Cause → (A → Result B Cause) → Result B Cause
+abbrev pub ◌>>=◌ : {A B E : Type 0} → Result A E → (A → Result B E) → Result B E
 (Ok x) >>= f = f x
 (Err cause) >>= f = Err cause
 
 -- the value that there is, or that the word with this number is outside its form
-abbrev pub or_field : {A : Type 0} → ℕ → Option A → Result A Cause
+abbrev pub or_field : {A : Type 0} → ℕ → Option A → Result A LineCause
 or_field k None = Err (Field k)
 or_field k (Some x) = Ok x
 
 -- what the word with this number is in the form
-abbrev pub field : {A : Type 0} → ℕ → (List ℕ → Option A) → List ℕ → Result A Cause
+abbrev pub field : {A : Type 0} → ℕ → (List ℕ → Option A) → List ℕ → Result A LineCause
 field k form line = or_field k (option_and_then form (word_of line k))
 
 -- NUM in a range

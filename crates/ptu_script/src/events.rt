@@ -4,13 +4,12 @@ ghost use Rattle.ptu_script.specs.{Command.{fields_in, handed_in}, Limits.{IsCom
 ghost use Rattle.ptu_script.specs.declared.verb.Verb.TheVariants as verbs;
 
 use crate::act::Act;
-use crate::cause::Cause;
 use crate::command::Command;
 use crate::fields::{
     capacity_field, ip_field, moment_field, number_field, octet_field, octets_field, rule_field,
     truth_field,
 };
-use ptu_lines::WordList;
+use ptu_lines::{LineCause, WordList};
 use ptu_units::Moment;
 use ptu_units::sizes::LONGEST_DATAGRAM;
 
@@ -19,7 +18,7 @@ use ptu_units::sizes::LONGEST_DATAGRAM;
 /// # Errors
 /// `Field(k)` for the first word k of another form or out of its range.
 #[tactic(auto, unfolding(crate::specs::Command::fields_in))]
-pub fn deliver<'a>(line: &WordList) -> Result<Command<'a>, Cause>
+pub fn deliver<'a>(line: &WordList) -> Result<Command<'a>, LineCause>
     ensures value { result ≡ fields_in verbs.Deliver line.now }
     ensures within { IfOk result IsCommandInRange }
 {
@@ -33,7 +32,7 @@ pub fn deliver<'a>(line: &WordList) -> Result<Command<'a>, Cause>
 /// # Errors
 /// `Field(k)` for the first word k of another form or out of its range.
 #[tactic(auto, unfolding(crate::specs::Command::fields_in))]
-pub fn turn<'a>(line: &WordList) -> Result<Command<'a>, Cause>
+pub fn turn<'a>(line: &WordList) -> Result<Command<'a>, LineCause>
     ensures value { result ≡ fields_in verbs.Turn line.now }
     ensures within { IfOk result IsCommandInRange }
 {
@@ -51,7 +50,7 @@ pub fn turn<'a>(line: &WordList) -> Result<Command<'a>, Cause>
 /// # Errors
 /// `Field(k)` for the first word k of another form or out of its range.
 #[tactic(auto, unfolding(crate::specs::Command::fields_in))]
-pub fn tick<'a>(line: &WordList) -> Result<Command<'a>, Cause>
+pub fn tick<'a>(line: &WordList) -> Result<Command<'a>, LineCause>
     ensures value { result ≡ fields_in verbs.Tick line.now }
     ensures within { IfOk result IsCommandInRange }
 {
@@ -66,7 +65,7 @@ pub fn tick<'a>(line: &WordList) -> Result<Command<'a>, Cause>
 /// # Errors
 /// `Field(k)` for the first word k of another form or out of its range.
 #[tactic(auto, unfolding(crate::specs::Command::fields_in))]
-pub fn flag<'a>(line: &WordList) -> Result<Command<'a>, Cause>
+pub fn flag<'a>(line: &WordList) -> Result<Command<'a>, LineCause>
     ensures value { result ≡ fields_in verbs.Flag line.now }
     ensures within { IfOk result IsCommandInRange }
 {
@@ -83,7 +82,7 @@ pub fn flag<'a>(line: &WordList) -> Result<Command<'a>, Cause>
 /// # Errors
 /// `Field(k)` for the first word k of another form or out of its range.
 #[tactic(auto, unfolding(crate::specs::Command::fields_in))]
-pub fn judge<'a>(line: &WordList) -> Result<Command<'a>, Cause>
+pub fn judge<'a>(line: &WordList) -> Result<Command<'a>, LineCause>
     ensures value { result ≡ fields_in verbs.Judge line.now }
     ensures within { IfOk result IsCommandInRange }
 {
@@ -100,7 +99,7 @@ pub fn judge<'a>(line: &WordList) -> Result<Command<'a>, Cause>
 /// # Errors
 /// `Field(k)` for the first word k of another form or out of its range.
 #[tactic(auto, unfolding(crate::specs::Command::fields_in))]
-pub fn stop<'a>(line: &WordList) -> Result<Command<'a>, Cause>
+pub fn stop<'a>(line: &WordList) -> Result<Command<'a>, LineCause>
     ensures value { result ≡ fields_in verbs.Stop line.now }
     ensures within { IfOk result IsCommandInRange }
 {
@@ -115,7 +114,7 @@ pub fn stop<'a>(line: &WordList) -> Result<Command<'a>, Cause>
 /// # Errors
 /// `Field(k)` for the first word k of another form or out of its range.
 #[tactic(auto, unfolding(crate::specs::Command::fields_in))]
-pub fn class<'a>(line: &WordList) -> Result<Command<'a>, Cause>
+pub fn class<'a>(line: &WordList) -> Result<Command<'a>, LineCause>
     ensures value { result ≡ fields_in verbs.Class line.now }
     ensures within { IfOk result IsCommandInRange }
 {
@@ -134,7 +133,7 @@ pub fn class<'a>(line: &WordList) -> Result<Command<'a>, Cause>
 /// # Errors
 /// `Field(k)` for the first word k of another form or out of its range.
 #[tactic(auto, unfolding(crate::specs::Command::fields_in))]
-pub fn capacity<'a>(line: &WordList) -> Result<Command<'a>, Cause>
+pub fn capacity<'a>(line: &WordList) -> Result<Command<'a>, LineCause>
     ensures value { result ≡ fields_in verbs.Capacity line.now }
     ensures within { IfOk result IsCommandInRange }
 {
@@ -146,7 +145,7 @@ pub fn capacity<'a>(line: &WordList) -> Result<Command<'a>, Cause>
 }
 
 // The words T, NODE and FROM.
-fn handed(line: &WordList) -> Result<(Moment, u32, u32), Cause>
+fn handed(line: &WordList) -> Result<(Moment, u32, u32), LineCause>
     ensures { result ≡ handed_in line.now }
 {
     let at = moment_field(line, 2)?;
@@ -161,7 +160,10 @@ fn handed(line: &WordList) -> Result<(Moment, u32, u32), Cause>
 /// `Field(k)` for the first word k of another form or out of its range. The content of the room is
 /// not said then.
 #[tactic(auto, unfolding(crate::specs::Command::fields_in))]
-pub fn rx<'a>(line: &WordList, room: &'a mut [u8; LONGEST_DATAGRAM]) -> Result<Command<'a>, Cause>
+pub fn rx<'a>(
+    line: &WordList,
+    room: &'a mut [u8; LONGEST_DATAGRAM],
+) -> Result<Command<'a>, LineCause>
     ensures value { result ≡ fields_in verbs.Rx line.now }
     ensures within { IfOk result IsCommandInRange }
 {

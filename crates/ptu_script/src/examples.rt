@@ -7,7 +7,7 @@ ghost use Rattle.ptu_script.specs.declared.act.Act.TheVariants as acts;
 ghost use Rattle.ptu_script.specs.declared.command.Command.TheVariants as commands;
 
 /// One line of each form.
-#[tactic(auto, unfolding(crate::specs::Command::command_of, crate::specs::Command::fields_in, crate::specs::Command::grandmaster_in, crate::specs::Command::slave_in))]
+#[tactic(auto, unfolding(crate::proofs::OnLiterals::commands_on_literals))]
 pub fn good_lines()
     ensures empty { command_of [] ≡ Ok None }
     ensures comment { command_of (codes "#gm") ≡ Ok None }
@@ -70,7 +70,7 @@ pub fn good_lines()
 {}
 
 /// Lines that are refused, each for the first cause that applies.
-#[tactic(auto, unfolding(crate::specs::Command::command_of, crate::specs::Command::fields_in, crate::specs::Command::grandmaster_in, crate::specs::Command::slave_in))]
+#[tactic(auto, unfolding(crate::proofs::OnLiterals::commands_on_literals))]
 pub fn refused_lines()
     ensures word { command_of (codes "walk") ≡ Err causes.Word }
     ensures word_before_count { command_of (codes " gm") ≡ Err causes.Word }

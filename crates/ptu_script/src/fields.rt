@@ -9,8 +9,7 @@ ghost use Rattle.ptu_script.specs.Fields.{or_field, field, from_to, log_of_kind,
 ghost use Rattle.ptu_script.specs.Fields.{port_number_of, domain_of, capacity_of, duration_of, timeout_of, wait_of};
 ghost use Rattle.ptu_script.specs.{Command.{moment_of}, Limits.{IsNamed}};
 
-use crate::cause::Cause;
-use ptu_lines::{LentOctets, WordList, clock, ip, log, number, octets};
+use ptu_lines::{LentOctets, LineCause, WordList, clock, ip, log, number, octets};
 use ptu_record::{NAMED_GAP, Rule};
 use ptu_units::sizes::LONGEST_DATAGRAM;
 use ptu_units::{
@@ -18,12 +17,15 @@ use ptu_units::{
     WaitToRestore,
 };
 
+/// How many bits an IPv4 address has.
+const ADDRESS_BITS: u8 = 32;
+
 // The value that there is, or that the word with this number is outside its form.
-fn or_outside<T: Drop>(value: Option<T>, k: u8) -> Result<T, Cause>
+fn or_outside<T: Drop>(value: Option<T>, k: u8) -> Result<T, LineCause>
     ensures { result ≡ or_field k value }
 {
     match value {
-        None => Err(Cause::Field(k)),
+        None => Err(LineCause::Field(k)),
         Some(value) => Ok(value),
     }
 }
@@ -40,7 +42,7 @@ fn ip_at(line: &WordList, k: u8) -> Option<u32>
 /// # Errors
 /// `Field(k)` if the word has another form or is out of its range, or is not there.
 #[inline(always)]
-pub fn ip_field(line: &WordList, k: u8) -> Result<u32, Cause>
+pub fn ip_field(line: &WordList, k: u8) -> Result<u32, LineCause>
     ensures { result ≡ field k ip_of line.now }
 {
     or_outside(ip_at(line, k), k)
@@ -56,7 +58,7 @@ fn clock_at(line: &WordList, k: u8) -> Option<u64>
 ///
 /// # Errors
 /// `Field(k)` if the word has another form or is out of its range, or is not there.
-pub fn clock_field(line: &WordList, k: u8) -> Result<u64, Cause>
+pub fn clock_field(line: &WordList, k: u8) -> Result<u64, LineCause>
     ensures { result ≡ field k clock_of line.now }
 {
     or_outside(clock_at(line, k), k)
@@ -74,7 +76,7 @@ fn number_at(line: &WordList, k: u8, least: u64, greatest: u64) -> Option<u64>
 /// # Errors
 /// `Field(k)` if the word has another form or is out of its range, or is not there.
 #[inline(always)]
-pub fn number_field(line: &WordList, k: u8, least: u64, greatest: u64) -> Result<u64, Cause>
+pub fn number_field(line: &WordList, k: u8, least: u64, greatest: u64) -> Result<u64, LineCause>
     ensures value { result ≡ field k (from_to least greatest) line.now }
     ensures within { IfOk result (λ n. (least ≤ n) × (n ≤ greatest)) }
 {
@@ -93,7 +95,7 @@ fn octet_at(line: &WordList, k: u8, greatest: u8) -> Option<u8>
 ///
 /// # Errors
 /// `Field(k)` if the word has another form or is out of its range, or is not there.
-pub fn octet_field(line: &WordList, k: u8) -> Result<u8, Cause>
+pub fn octet_field(line: &WordList, k: u8) -> Result<u8, LineCause>
     ensures { result ≡ field k (from_to 0 255) line.now }
 {
     or_outside(octet_at(line, k, u8::MAX), k)
@@ -104,11 +106,11 @@ pub fn octet_field(line: &WordList, k: u8) -> Result<u8, Cause>
 ///
 /// # Errors
 /// `Field(k)` if the word has another form or is out of its range, or is not there.
-pub fn bits_field(line: &WordList, k: u8) -> Result<u8, Cause>
+pub fn bits_field(line: &WordList, k: u8) -> Result<u8, LineCause>
     ensures value { result ≡ field k (from_to 0 32) line.now }
     ensures within { IfOk result (λ n. n ≤ 32) }
 {
-    or_outside(octet_at(line, k, 32), k)
+    or_outside(octet_at(line, k, ADDRESS_BITS), k)
 }
 
 fn port_at(line: &WordList, k: u8) -> Option<PortNumber>
@@ -127,7 +129,7 @@ fn port_at(line: &WordList, k: u8) -> Option<PortNumber>
 ///
 /// # Errors
 /// `Field(k)` if the word has another form or is out of its range, or is not there.
-pub fn port_field(line: &WordList, k: u8) -> Result<PortNumber, Cause>
+pub fn port_field(line: &WordList, k: u8) -> Result<PortNumber, LineCause>
     ensures value { result ≡ field k port_number_of line.now }
     ensures within { IfOk result IsPort }
 {
@@ -145,7 +147,7 @@ fn domain_at(line: &WordList, k: u8) -> Option<Domain>
 ///
 /// # Errors
 /// `Field(k)` if the word has another form or is out of its range, or is not there.
-pub fn domain_field(line: &WordList, k: u8) -> Result<Domain, Cause>
+pub fn domain_field(line: &WordList, k: u8) -> Result<Domain, LineCause>
     ensures value { result ≡ field k domain_of line.now }
     ensures within { IfOk result IsDomain }
 {
@@ -164,7 +166,7 @@ fn capacity_at(line: &WordList, k: u8) -> Option<Capacity>
 ///
 /// # Errors
 /// `Field(k)` if the word has another form or is out of its range, or is not there.
-pub fn capacity_field(line: &WordList, k: u8) -> Result<Capacity, Cause>
+pub fn capacity_field(line: &WordList, k: u8) -> Result<Capacity, LineCause>
     ensures value { result ≡ field k capacity_of line.now }
     ensures within { IfOk result IsCapacity }
 {
@@ -187,7 +189,7 @@ fn duration_at(line: &WordList, k: u8) -> Option<GrantSeconds>
 ///
 /// # Errors
 /// `Field(k)` if the word has another form or is out of its range, or is not there.
-pub fn duration_field(line: &WordList, k: u8) -> Result<GrantSeconds, Cause>
+pub fn duration_field(line: &WordList, k: u8) -> Result<GrantSeconds, LineCause>
     ensures value { result ≡ field k duration_of line.now }
     ensures within { IfOk result IsDuration }
 {
@@ -210,7 +212,7 @@ fn timeout_at(line: &WordList, k: u8) -> Option<ReceiptTimeout>
 ///
 /// # Errors
 /// `Field(k)` if the word has another form or is out of its range, or is not there.
-pub fn timeout_field(line: &WordList, k: u8) -> Result<ReceiptTimeout, Cause>
+pub fn timeout_field(line: &WordList, k: u8) -> Result<ReceiptTimeout, LineCause>
     ensures value { result ≡ field k timeout_of line.now }
     ensures within { IfOk result IsTimeout }
 {
@@ -228,7 +230,7 @@ fn wait_at(line: &WordList, k: u8) -> Option<WaitToRestore>
 ///
 /// # Errors
 /// `Field(k)` if the word has another form or is out of its range, or is not there.
-pub fn wait_field(line: &WordList, k: u8) -> Result<WaitToRestore, Cause>
+pub fn wait_field(line: &WordList, k: u8) -> Result<WaitToRestore, LineCause>
     ensures value { result ≡ field k wait_of line.now }
     ensures within { IfOk result IsWait }
 {
@@ -239,7 +241,7 @@ pub fn wait_field(line: &WordList, k: u8) -> Result<WaitToRestore, Cause>
 fn moment_at(line: &WordList, k: u8) -> Option<Moment>
     ensures { result ≡ option_and_then moment_of (word_of line.now k) }
 {
-    Moment::of(number_at(line, k, 0, (1 << 62) - 1)?)
+    Moment::of(number_at(line, k, 0, Moment::GREATEST)?)
 }
 
 /// The moment that word k of the line writes, in nanoseconds below 2^62.
@@ -247,7 +249,7 @@ fn moment_at(line: &WordList, k: u8) -> Option<Moment>
 /// # Errors
 /// `Field(k)` if the word has another form or is out of its range, or is not there.
 #[inline(always)]
-pub fn moment_field(line: &WordList, k: u8) -> Result<Moment, Cause>
+pub fn moment_field(line: &WordList, k: u8) -> Result<Moment, LineCause>
     ensures { result ≡ field k moment_of line.now }
 {
     or_outside(moment_at(line, k), k)
@@ -265,7 +267,7 @@ fn log_of(word: &[u8], kind: Kind) -> Option<Log>
     ensures value { result ≡ log_of_kind kind word.now }
     ensures within { IfSome result (IsLogOf kind) }
 {
-    let value = log(word, -128, 127)?;
+    let value = log(word, i8::MIN, i8::MAX)?;
     of_kind(kind, value)
 }
 
@@ -280,7 +282,7 @@ fn log_at(line: &WordList, k: u8, kind: Kind) -> Option<Log>
 ///
 /// # Errors
 /// `Field(k)` if the word has another form or is out of its range, or is not there.
-pub fn log_field(line: &WordList, k: u8, kind: Kind) -> Result<Log, Cause>
+pub fn log_field(line: &WordList, k: u8, kind: Kind) -> Result<Log, LineCause>
     ensures value { result ≡ field k (log_of_kind kind) line.now }
     ensures within { IfOk result (IsLogOf kind) }
 {
@@ -298,7 +300,7 @@ fn announce_log_at(line: &WordList, k: u8) -> Option<AnnounceLog>
 ///
 /// # Errors
 /// `Field(k)` if the word has another form or is out of its range, or is not there.
-pub fn announce_log_field(line: &WordList, k: u8) -> Result<AnnounceLog, Cause>
+pub fn announce_log_field(line: &WordList, k: u8) -> Result<AnnounceLog, LineCause>
     ensures value { result ≡ field k (log_of_kind kinds.Announce) line.now }
     ensures within { IfOk result (IsLogOf kinds.Announce) }
 {
@@ -320,7 +322,7 @@ fn delay_log_at(line: &WordList, k: u8) -> Option<Option<Log>>
 ///
 /// # Errors
 /// `Field(k)` if the word has another form or is out of its range, or is not there.
-pub fn delay_log_field(line: &WordList, k: u8) -> Result<Option<Log>, Cause>
+pub fn delay_log_field(line: &WordList, k: u8) -> Result<Option<Log>, LineCause>
     ensures { result ≡ field k delay_log line.now }
 {
     or_outside(delay_log_at(line, k), k)
@@ -350,7 +352,7 @@ fn rule_at(line: &WordList, k: u8) -> Option<Rule>
 ///
 /// # Errors
 /// `Field(k)` if the word has another form or is out of its range, or is not there.
-pub fn rule_field(line: &WordList, k: u8) -> Result<Rule, Cause>
+pub fn rule_field(line: &WordList, k: u8) -> Result<Rule, LineCause>
     ensures value { result ≡ field k rule_named line.now }
     ensures within { IfOk result IsNamed }
 {
@@ -367,7 +369,7 @@ fn truth_at(line: &WordList, k: u8) -> Option<bool>
 ///
 /// # Errors
 /// `Field(k)` if the word has another form or is out of its range, or is not there.
-pub fn truth_field(line: &WordList, k: u8) -> Result<bool, Cause>
+pub fn truth_field(line: &WordList, k: u8) -> Result<bool, LineCause>
     ensures { result ≡ field k truth_of line.now }
 {
     or_outside(truth_at(line, k), k)
@@ -394,12 +396,12 @@ pub fn octets_field<'a>(
     line: &WordList,
     k: u8,
     room: &'a mut [u8; LONGEST_DATAGRAM],
-) -> Result<LentOctets<'a>, Cause>
+) -> Result<LentOctets<'a>, LineCause>
     ensures value { result ≡ field k octets_of line.now }
     ensures within { IfOk result (λ octets. length octets ≤ 2048) }
 {
     match octets_at(line, k, room) {
-        None => Err(Cause::Field(k)),
+        None => Err(LineCause::Field(k)),
         Some(size) => Ok(LentOctets::new(&room[..size])),
     }
 }

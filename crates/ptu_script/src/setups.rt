@@ -5,13 +5,12 @@ ghost use Rattle.ptu_script.specs.Command.{grandmaster_in, delay_timeout_in, sla
 ghost use Rattle.ptu_script.specs.Limits.{IsGrandmasterWithin, IsSlaveWithin, IsCommandInRange};
 ghost use Rattle.ptu_script.specs.declared.verb.Verb.TheVariants as verbs;
 
-use crate::cause::Cause;
 use crate::command::{Command, GrandmasterSetup, SlaveSetup};
 use crate::fields::{
     announce_log_field, capacity_field, clock_field, delay_log_field, domain_field, duration_field,
     ip_field, log_field, octet_field, port_field, rule_field, timeout_field, wait_field,
 };
-use ptu_lines::WordList;
+use ptu_lines::{LineCause, WordList};
 use ptu_record::Wants;
 use ptu_units::{Kind, ReceiptTimeout};
 
@@ -20,7 +19,7 @@ use ptu_units::{Kind, ReceiptTimeout};
 /// # Errors
 /// `Field(k)` for the first word k of another form or out of its range.
 #[tactic(auto, unfolding(crate::specs::Command::grandmaster_in))]
-pub fn grandmaster(line: &WordList) -> Result<GrandmasterSetup, Cause>
+pub fn grandmaster(line: &WordList) -> Result<GrandmasterSetup, LineCause>
     ensures value { result ≡ grandmaster_in line.now }
     ensures within { IfOk result IsGrandmasterWithin }
 {
@@ -43,7 +42,7 @@ pub fn grandmaster(line: &WordList) -> Result<GrandmasterSetup, Cause>
 }
 
 // The word TD, which a line of 12 words lacks.
-fn delay_timeout(line: &WordList) -> Result<ReceiptTimeout, Cause>
+fn delay_timeout(line: &WordList) -> Result<ReceiptTimeout, LineCause>
     ensures value { result ≡ delay_timeout_in line.now }
     ensures within { IfOk result IsTimeout }
 {
@@ -57,7 +56,7 @@ fn delay_timeout(line: &WordList) -> Result<ReceiptTimeout, Cause>
 /// The fields of `slave IP CLOCK PORT DOMAIN WAIT TA TS LA LS LD DUR` and, where there is a 13th
 /// word, TD.
 #[tactic(auto, unfolding(crate::specs::Command::slave_in))]
-fn slave(line: &WordList) -> Result<SlaveSetup, Cause>
+fn slave(line: &WordList) -> Result<SlaveSetup, LineCause>
     ensures value { result ≡ slave_in line.now }
     ensures within { IfOk result IsSlaveWithin }
 {
@@ -97,7 +96,7 @@ fn slave(line: &WordList) -> Result<SlaveSetup, Cause>
 /// # Errors
 /// `Field(k)` for the first word k of another form or out of its range.
 #[tactic(auto, unfolding(crate::specs::Command::fields_in))]
-pub fn gm<'a>(line: &WordList) -> Result<Command<'a>, Cause>
+pub fn gm<'a>(line: &WordList) -> Result<Command<'a>, LineCause>
     ensures value { result ≡ fields_in verbs.Gm line.now }
     ensures within { IfOk result IsCommandInRange }
 {
@@ -109,7 +108,7 @@ pub fn gm<'a>(line: &WordList) -> Result<Command<'a>, Cause>
 /// # Errors
 /// `Field(k)` for the first word k of another form or out of its range.
 #[tactic(auto, unfolding(crate::specs::Command::fields_in))]
-pub fn new_slave<'a>(line: &WordList) -> Result<Command<'a>, Cause>
+pub fn new_slave<'a>(line: &WordList) -> Result<Command<'a>, LineCause>
     ensures value { result ≡ fields_in verbs.Slave line.now }
     ensures within { IfOk result IsCommandInRange }
 {
@@ -122,7 +121,7 @@ pub fn new_slave<'a>(line: &WordList) -> Result<Command<'a>, Cause>
 /// # Errors
 /// `Field(k)` for the first word k of another form or out of its range.
 #[tactic(auto, unfolding(crate::specs::Command::fields_in))]
-pub fn master<'a>(line: &WordList) -> Result<Command<'a>, Cause>
+pub fn master<'a>(line: &WordList) -> Result<Command<'a>, LineCause>
     ensures value { result ≡ fields_in verbs.Master line.now }
     ensures within { IfOk result IsCommandInRange }
 {

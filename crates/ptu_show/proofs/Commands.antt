@@ -8,14 +8,14 @@ use Rattle.ptu_script.specs.declared.act.Act.TheVariants as acts
 use Rattle.ptu_script.specs.declared.command.Command.TheVariants as commands
 use Rattle.ptu_script.specs.declared.verb.{Verb.{Verb}, Verb.TheVariants.{Gm, Rx, Turn}}
 use Rattle.ptu_script.specs.Command.{command_of, fields_in, grandmaster_in, is_comment, moment_of}
-use Rattle.ptu_script.specs.{Fields.{◌>>=◌, from_to}, Verb.{counts_of, verb_named}}
+use Rattle.ptu_script.specs.{Cause.{named}, Fields.{◌>>=◌, from_to}, Verb.{counts_of, verb_named}}
 use Rattle.ptu_show.proofs.Going.{address}
 use Rattle.ptu_texts.proofs.Read.{decimal_glyphs, decimal_within, octets_glyphs, octets_read}
 use Rattle.ptu_show.proofs.Words.{address_read, client_words, grandmaster_words, turn_words}
 
 -- a line with these words begins with a verb, and has as many words as the verb asks for
 of_verb : (line : List ℕ) (words : List (List ℕ)) (verb : Verb) → is_comment line ≡ false → words_of line ≡ words → verb_named (unwrap_or (slice_get words 0) []) ≡ Some verb
-    → list_any (λ count. count == length words) (counts_of verb) ≡ true → command_of line ≡ (fields_in verb line >>= λ command. Ok (Some command))
+    → list_any (λ count. count == length words) (counts_of verb) ≡ true → command_of line ≡ (named (fields_in verb line) >>= λ command. Ok (Some command))
 unfolding command_of
 of_verb line words verb c e v n = rw (c, e, v, e, n) refl
 
@@ -38,7 +38,7 @@ grandmaster_says capacity low high =
     let words = grandmaster_words (decimal capacity) (decimal_glyphs capacity (omega (arith, high))) in
     let read : from_to 1 16777216 (decimal capacity) ≡ Some capacity = decimal_within capacity 1 16777216 low high (omega (arith, high)) in
     of_verb (grandmaster_line capacity) _ Gm refl words refl refl
-    ∙ ap (λ r. r >>= λ command. Ok (Some command)) (grandmaster_fields (grandmaster_line capacity) (decimal capacity) capacity words read)
+    ∙ ap (λ r. named r >>= λ command. Ok (Some command)) (grandmaster_fields (grandmaster_line capacity) (decimal capacity) capacity words read)
 
 -- ---- a turn
 
@@ -56,7 +56,7 @@ turn_says moment table below few =
     let first : moment_of (decimal moment) ≡ Some moment = decimal_within moment 0 (2 ^ 62 - 1) (omega arith) (omega (arith, below)) (omega (arith, below)) in
     let second : from_to 0 3 (decimal table) ≡ Some table = decimal_within table 0 3 (omega arith) few (omega (arith, few)) in
     of_verb (turn_line moment table) _ Turn refl words refl refl
-    ∙ ap (λ r. r >>= λ command. Ok (Some command)) (turn_fields (turn_line moment table) (decimal moment) (decimal table) moment table words first second)
+    ∙ ap (λ r. named r >>= λ command. Ok (Some command)) (turn_fields (turn_line moment table) (decimal moment) (decimal table) moment table words first second)
 
 -- ---- a request
 
@@ -77,5 +77,5 @@ pub client_says : (a b : ℕ) (octets : List ℕ) → a ≤ 255 → b ≤ 255 �
 client_says a b octets h k bytes some few =
     let words = client_words (decimal a) (decimal b) (encode_lower octets) (decimal_glyphs a (omega (arith, h))) (decimal_glyphs b (omega (arith, k))) (octets_glyphs octets bytes) in
     of_verb (client_line a b octets) _ Rx refl words refl refl
-    ∙ ap (λ r. r >>= λ command. Ok (Some command)) (client_fields (client_line a b octets) _ (encode_lower octets) (client_address a b) octets words (address_read a b h k)
+    ∙ ap (λ r. named r >>= λ command. Ok (Some command)) (client_fields (client_line a b octets) _ (encode_lower octets) (client_address a b) octets words (address_read a b h k)
     (octets_read octets bytes some few))

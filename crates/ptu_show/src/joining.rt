@@ -20,7 +20,7 @@ use ptu_report::{Reporter, Texts, run};
 use ptu_script::Cause;
 use ptu_texts::OctetsText;
 use ptu_units::OutOfMemory;
-use ptu_units::sizes::LONGEST_DATAGRAM;
+use ptu_units::sizes::{ANNOUNCE_LENGTH, LONGEST_DATAGRAM};
 use std::alloc::Global;
 use std::marker::Model;
 
@@ -62,7 +62,7 @@ fn add_half(
     match half.joined(&before) {
         None => texts.add_text(&JoinLine::Overflow { number }),
         Some(sync) => {
-            let mut octets = [0; 64];
+            let mut octets = [0; ANNOUNCE_LENGTH];
             let size = write_fixed(&sync, &mut octets);
             let sync = OctetsText(&octets[..size]);
             texts.add_text(&JoinLine::Pair { number, sync })

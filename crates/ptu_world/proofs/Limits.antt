@@ -3,7 +3,8 @@ use Rattle.std.proofs.Common.{◌≡◌, ℕ, ◌≤◌, ◌&&◌, List, Option,
 use Rattle.std.proofs.lemmas.Bool.{and_parts}
 use Rattle.ptu_lines.specs.Words.{within, number_of, word_of, ip_of, clock_of, octets_of}
 use Rattle.ptu_units.specs.Limits.{IsCapacity, greatest_capacity, least_capacity, greatest_domain, least_domain, greatest_duration, least_duration, greatest_port, least_port}
-use Rattle.ptu_script.specs.declared.{cause.Cause.{Cause}, command.Command.{Command}}
+use Rattle.ptu_lines.specs.declared.cause.LineCause.{LineCause}
+use Rattle.ptu_script.specs.{Cause.{named}, declared.command.Command.{Command}}
 use Rattle.ptu_script.specs.declared.act.Act.TheVariants as acts
 use Rattle.ptu_script.specs.declared.command.Command.TheVariants as commands
 use Rattle.ptu_script.specs.declared.{command.GrandmasterSetup.{GrandmasterSetup}, verb.Verb.{Verb}}
@@ -14,11 +15,11 @@ use Rattle.ptu_script.specs.{Limits.{IsGrandmasterWithin}, Verb.{counts_of}}
 
 -- ---- what is found through another
 
-pub ok_bound : {A B : Type 0} (Q : B → Type 0) (r : Result A Cause) (f : A → Result B Cause) → ((x : A) → r ≡ Ok x → IfOk (f x) Q) → IfOk (r >>= f) Q
+pub ok_bound : {A B E : Type 0} (Q : B → Type 0) (r : Result A E) (f : A → Result B E) → ((x : A) → r ≡ Ok x → IfOk (f x) Q) → IfOk (r >>= f) Q
 ok_bound Q (Ok x) f g = g x refl
 ok_bound Q (Err cause) f g = tt
 
-pub ok_either : {A : Type 0} (Q : A → Type 0) (b : Bool) (r s : Result A Cause) → (b ≡ true → IfOk r Q) → (b ≡ false → IfOk s Q) → IfOk (cond b r s) Q
+pub ok_either : {A E : Type 0} (Q : A → Type 0) (b : Bool) (r s : Result A E) → (b ≡ true → IfOk r Q) → (b ≡ false → IfOk s Q) → IfOk (cond b r s) Q
 ok_either Q true r s f g = f refl
 ok_either Q false r s f g = g refl
 
@@ -80,7 +81,7 @@ fields_within : (verb : Verb) (line : List ℕ) → IfOk (fields_in verb line) I
 unfolding fields_in
 fields_within Gm line = by (grandmaster_in line) (grandmaster_within line)
   where
-    by : (r : Result GrandmasterSetup Cause) → IfOk r IsGrandmasterWithin → IfOk (r >>= λ setup. Ok (commands.Grandmaster setup)) IsWithin
+    by : (r : Result GrandmasterSetup LineCause) → IfOk r IsGrandmasterWithin → IfOk (r >>= λ setup. Ok (commands.Grandmaster setup)) IsWithin
     by (Ok setup) h = h
     by (Err cause) h = tt
 fields_within Slave line = ok_bound IsWithin (slave_in line) _ (λ x0 _. tt)
@@ -105,6 +106,6 @@ pub command_within : (line : List ℕ) → IfOk (command_of line) (λ o. IfSome 
 unfolding command_of
 command_within line = ok_either (λ o. IfSome o IsWithin) (is_comment line) (Ok None) _ (λ _. tt) (λ _. by _ (by_verb _ line))
   where
-    by : (r : Result Command Cause) → IfOk r IsWithin → IfOk (r >>= λ command. Ok (Some command)) (λ o. IfSome o IsWithin)
+    by : (r : Result Command LineCause) → IfOk r IsWithin → IfOk (named r >>= λ command. Ok (Some command)) (λ o. IfSome o IsWithin)
     by (Ok command) h = h
     by (Err cause) h = tt
