@@ -1,5 +1,5 @@
 //! Datagrams in text: `show` decodes datagrams, line by line, `join` joins the halves of Syncs in
-//! two steps, and `read_datagram` reads the line of one.
+//! two steps, and `read_datagram` reads the line of one. `generate` writes the script of a load.
 #![tactic(auto)]
 
 mod datagram;
