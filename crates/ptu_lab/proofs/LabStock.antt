@@ -1,33 +1,47 @@
--- What is taken from a stock of judges is what a world's stock gives.
-use Rattle.std.proofs.Common.{◌≡◌, ◌-◌, List, length, Option, Some, None, MatchOption, false, eqb, refl, arith, ne_eqb}
-use Rattle.ptu_record.specs.declared.rule.{Rule.{Rule}, Rule.TheVariants.{Flag, Gap}}
-use Rattle.ptu_script.specs.Limits.{IsNamed}
-use Rattle.ptu_judges.specs.Held.{Held}
-use Rattle.ptu_judges.specs.Held as held
+-- A judge is taken from the end of a list of the stock.
+use Rattle.std.proofs.Common.{◌≡◌, ◌∙◌, ℕ, ◌+◌, ◌-◌, ◌++◌, List, [], ◌∷◌, map, length, Option, Some, None, option_to_list, MatchOption, Ok, false, eqb, refl, sym, ap, subst, arith, length-append, ne_eqb}
+use Rattle.std.specs.List.{AllByRecursion}
+use Rattle.std.proofs.lemmas.List.{length-map}
+use Rattle.ptu_record.specs.declared.rule.Rule.TheVariants.{Flag, Gap}
+use Rattle.ptu_judges.specs.Held.{Held, IsStock, fresh}
 use Rattle.ptu_lab.specs.Steps.{HasNone, HasTaken}
 
-module _ (flags gaps : List Held) where
-  none_left : (rule : Rule) → IsNamed rule → held.HasNone rule flags gaps → HasNone rule flags gaps
-  none_left Flag named none = rw none refl
-  none_left (Gap n) named none = by (rw named at none)
-    where
-      by : length gaps ≡ 0 → HasNone (Gap n) flags gaps
-      by empty = rw empty refl
+module _ {A : Type 0} (f : A → Held) where
+  all_but_last : (P : Held → Type 0) (xs : List A) (x : A) → AllByRecursion P (map f (xs ++ x ∷ [])) → AllByRecursion P (map f xs) × P (f x)
+  all_but_last P [] x h = (tt, h.0)
+  all_but_last P (y ∷ ys) x h = let rest = all_but_last P ys x h.1 in ((h.0, rest.0), rest.1)
 
-  one_left : (rule : Rule) (flags' gaps' : List Held) (judge : Held) → held.HasTaken rule flags gaps flags' gaps' judge → HasTaken rule flags gaps flags' gaps' judge
-  one_left Flag flags' gaps' judge t =
-      let some : eqb (length flags) 0 ≡ false = ne_eqb (length flags) 0 (λ none. omega (arith, none, t.flags_left)) in
-      let less : length flags - 1 ≡ length flags' = omega (arith, t.flags_left) in
-      let same : length gaps ≡ length gaps' = omega (arith, t.gaps_left) in
-      record { is_fresh = t.is_fresh; left = rw (some, less, same) refl; stock = t.stock }
-  one_left (Gap n) flags' gaps' judge t =
-      let some : eqb (length gaps) 0 ≡ false = ne_eqb (length gaps) 0 (λ none. omega (arith, none, t.gaps_left)) in
-      let less : length gaps - 1 ≡ length gaps' = omega (arith, t.gaps_left) in
-      let same : length flags ≡ length flags' = omega (arith, t.flags_left) in
-      record { is_fresh = t.is_fresh; left = rw (some, less, same) refl; stock = t.stock }
+  one_less : (xs : List A) (x : A) → length (map f (xs ++ x ∷ [])) ≡ length (map f xs) + 1
+  one_less xs x = length-map (xs ++ x ∷ []) f ∙ (length-append xs (x ∷ []) ∙ ap (λ n. n + 1) (sym (length-map xs f)))
 
-  pub taken_or_none : {J : Type 0} (f : J → Held) (rule : Rule) (flags' gaps' : List Held) (found : Option J) → IsNamed rule
-      → MatchOption found (held.HasNone rule flags gaps) (λ judge. held.HasTaken rule flags gaps flags' gaps' (f judge))
-      → MatchOption found (HasNone rule flags gaps) (λ judge. HasTaken rule flags gaps flags' gaps' (f judge))
-  taken_or_none f rule flags' gaps' None named none = none_left rule named none
-  taken_or_none f rule flags' gaps' (Some judge) named t = one_left rule flags' gaps' (f judge) t
+  not_empty : (xs : List A) (x : A) → eqb (length (map f (xs ++ x ∷ []))) 0 ≡ false
+  not_empty xs x = ne_eqb _ 0 (λ none. omega (arith, one_less xs x))
+
+  empty : (old : List A) (n : ℕ) → n ≡ length old → n ≡ 0 → length (map f old) ≡ 0
+  empty old n many none = length-map old f ∙ (sym many ∙ none)
+
+  pub took_flag : (old new other : List A) (found : Option A) (n m : ℕ) → old ≡ new ++ option_to_list found → n ≡ length old
+      → MatchOption found ((n ≡ 0) × (m ≡ 0)) (λ _. m + 1 ≡ n) → IsStock (map f old) (map f other)
+      → MatchOption found (HasNone Flag (map f old) (map f other)) (λ judge. HasTaken Flag (map f old) (map f other) (map f new) (map f other) (f judge))
+  took_flag old new other None n m is many count stock = rw (empty old n many count.0) refl
+  took_flag old new other (Some judge) n m is many count stock =
+      let parts = all_but_last (λ held. held ≡ fresh Flag) new judge (subst (λ l. AllByRecursion (λ held. held ≡ fresh Flag) (map f l)) is stock.flags_fresh) in
+      let less : length (map f (new ++ judge ∷ [])) - 1 ≡ length (map f new) = omega (arith, one_less new judge) in
+      rw is (record {
+        is_fresh = parts.1;
+        left = rw (not_empty new judge) (ap (λ k. Ok (record { flags = k; gaps = length (map f other) })) less);
+        stock = record { flags_fresh = parts.0; gaps_fresh = stock.gaps_fresh };
+      })
+
+  pub took_gap : (old new other : List A) (found : Option A) (n m : ℕ) → old ≡ new ++ option_to_list found → n ≡ length old
+      → MatchOption found ((n ≡ 0) × (m ≡ 0)) (λ _. m + 1 ≡ n) → IsStock (map f other) (map f old)
+      → MatchOption found (HasNone (Gap 4) (map f other) (map f old)) (λ judge. HasTaken (Gap 4) (map f other) (map f old) (map f other) (map f new) (f judge))
+  took_gap old new other None n m is many count stock = rw (empty old n many count.0) refl
+  took_gap old new other (Some judge) n m is many count stock =
+      let parts = all_but_last (λ held. held ≡ fresh (Gap 4)) new judge (subst (λ l. AllByRecursion (λ held. held ≡ fresh (Gap 4)) (map f l)) is stock.gaps_fresh) in
+      let less : length (map f (new ++ judge ∷ [])) - 1 ≡ length (map f new) = omega (arith, one_less new judge) in
+      rw is (record {
+        is_fresh = parts.1;
+        left = rw (not_empty new judge) (ap (λ k. Ok (record { flags = length (map f other); gaps = k })) less);
+        stock = record { flags_fresh = stock.flags_fresh; gaps_fresh = parts.0 };
+      })

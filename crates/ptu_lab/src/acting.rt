@@ -9,7 +9,7 @@ ghost use Rattle.ptu_lab.specs.Steps.{HasActedLeaving, stock_of};
 ghost use Rattle.ptu_lab.specs.Standing.{HasObeyed, LabStandsFor, NodeStandsAs};
 
 use crate::lab::{Lab, Node};
-use ptu_judges::Stock;
+use crate::stock::Reserve;
 use ptu_lines::LentOctets;
 use ptu_nodes::Journal;
 use ptu_report_lines::Statement;
@@ -27,7 +27,7 @@ impl Node {
         &mut self,
         at: Moment,
         act: Act<'_>,
-        stock: &mut Stock,
+        stock: &mut Reserve,
         journal: &mut Journal,
     ) -> Result<Option<Cause>, OutOfMemory>
         requires means { (ip : ℕ) × (begun : Bool) × (w : world.Node)

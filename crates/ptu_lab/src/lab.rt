@@ -8,6 +8,7 @@ ghost use Rattle.ptu_world.specs.{World.{step}, Report.{Course, course_opening, 
 ghost use Rattle.ptu_lab.specs.{Standing.{HasObeyed, LabStandsFor}, Steps.{stock_of}};
 
 use crate::slave_node::SlaveNode;
+use crate::stock::Reserve;
 use ptu_judges::Stock;
 use ptu_nodes::{GrandmasterNode, Journal};
 use ptu_report::Texts;
@@ -31,7 +32,7 @@ pub struct Lab {
     /// What they sent, and what is said of a line.
     pub journal: Journal,
     /// The judges that are left.
-    pub stock: Stock,
+    pub stock: Reserve,
     /// Whether there was an event.
     pub has_begun: bool,
 }
@@ -47,7 +48,10 @@ impl Lab {
         Lab {
             nodes: HashMap::new(alloc),
             journal: Journal::new(alloc),
-            stock,
+            stock: Reserve {
+                flags: stock.flags,
+                gaps: stock.gaps,
+            },
             has_begun: false,
         }
     }

@@ -24,8 +24,8 @@ ghost use Rattle.ptu_lab.specs.Standing.{HasDoneAsSlave};
 ghost use Rattle.ptu_lab.specs.Steps.{HasActedLeaving, stock_of};
 
 use crate::slave_statements::{say_heard, was_ignored};
-use crate::stock::take_judge;
-use ptu_judges::{Judge, Rule, Stock};
+use crate::stock::{Reserve, take_judge};
+use ptu_judges::{Judge, Rule};
 use ptu_messages::PortIdentity;
 use ptu_nodes::Journal;
 use ptu_outside::MemPort;
@@ -123,7 +123,7 @@ impl SlaveNode {
         &mut self,
         at: Moment,
         act: Act<'_>,
-        stock: &mut Stock,
+        stock: &mut Reserve,
         journal: &mut Journal,
     ) -> Result<Option<Cause>, OutOfMemory>
         requires stock { IsStock (map held stock.old.flags.items)
@@ -245,7 +245,7 @@ impl SlaveNode {
         at: Moment,
         master: u32,
         rule: Rule,
-        stock: &mut Stock,
+        stock: &mut Reserve,
         journal: &mut Journal,
     ) -> Result<Option<Cause>, OutOfMemory>
         requires stock { IsStock (map held stock.old.flags.items)
