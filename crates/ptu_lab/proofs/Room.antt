@@ -7,15 +7,15 @@ use Rattle.ptu_nodes.specs.Standing.{IsIdle}
 use Rattle.ptu_world.specs.Deeds.{Slave}
 use Rattle.ptu_lab.specs.{NodeStanding.{IsNode, IsSlaveNode}, SlaveWords.{HasRoom}}
 
--- where room was made in the port that it gets
-pub room_made : (before after port : MemoryPort) (count size : ℕ) → port ≡ after → after ≡ record before { datagrams = after.datagrams; octets = after.octets }
-    → length before.sent + count ≤ after.datagrams → departure_octets before.sent + size ≤ after.octets → HasRoom port count size
-room_made before after port count size is same more wider =
+-- where room was made
+pub room_made : (before after : MemoryPort) (count size : ℕ) → after ≡ record before { datagrams = after.datagrams; octets = after.octets }
+    → length before.sent + count ≤ after.datagrams → departure_octets before.sent + size ≤ after.octets → HasRoom after count size
+room_made before after count size same more wider =
     let sent : after.sent ≡ before.sent = ap (λ (p : MemoryPort). p.sent) same in
-    subst (λ p. HasRoom p count size) (sym is) (record {
+    record {
       datagrams = subst (λ ds. length ds + count ≤ after.datagrams) (sym sent) more;
       octets = subst (λ ds. departure_octets ds + size ≤ after.octets) (sym sent) wider;
-    })
+    }
 
 -- of a port of which no send is to fail, this is also so with room
 pub sure_room : (old room : MemoryPort) (datagrams octets : ℕ) → room.failing_sends ≡ old.failing_sends → HasRoom room datagrams octets → IsSure old [] → IsSure room []

@@ -31,7 +31,7 @@ use ptu_nodes::Journal;
 use ptu_outside::MemPort;
 use ptu_report_lines::Statement;
 use ptu_script::{Act, Cause, SlaveSetup};
-use ptu_slave::{Heard, Master, Slave, SlaveConfig};
+use ptu_slave::{HasPort, Heard, Master, Slave, SlaveConfig};
 use ptu_units::sizes::{LONGEST_SIGNALING, SYNC_LENGTH};
 use ptu_units::{Moment, OutOfMemory};
 use std::alloc::Global;
@@ -184,7 +184,7 @@ impl SlaveNode {
         ensures done { OnOk result (HasDoneAsSlave held self.old self.new
             (λ s. plain_deed s at Tick) journal.old journal.new) }
     {
-        tick(journal.alloc(), &mut self.slave, at)?;
+        tick(&mut self.slave, at)?;
         self.conclude(at, journal)
     }
 
@@ -194,7 +194,7 @@ impl SlaveNode {
         ensures done { OnOk result (HasDoneAsSlave held self.old self.new
             (λ s. plain_deed s at Stop) journal.old journal.new) }
     {
-        stop(journal.alloc(), &mut self.slave, at)?;
+        stop(&mut self.slave, at)?;
         self.conclude(at, journal)
     }
 
@@ -294,6 +294,7 @@ impl SlaveNode {
     }
 
     // Hands over what the slave sent, and says what it selects.
+    #[tactic(auto, unfolding(ptu_slave::specs::Seen::seen))]
     fn conclude(&mut self, at: Moment, journal: &mut Journal) -> Result<(), OutOfMemory>
         requires moment { at < 2 ^ 62 }
         ensures ip { self.new.ip ≡ self.old.ip }
@@ -311,11 +312,8 @@ impl SlaveNode {
             (with_handed self.old.ip (seen_by held self.old.slave).port.sent
             journal.old)) }
     {
-        let mut port = self.slave.replace_port(quiet_port(journal.alloc()));
-        journal.hand_over(&mut port, self.ip)?;
-        self.slave.replace_port(port);
-        self.say_selected(at, journal)?;
-        Ok(())
+        journal.hand_over(self.slave.port(), self.ip)?;
+        self.say_selected(at, journal)
     }
 
     // Says what the slave selects.
@@ -364,12 +362,8 @@ fn quiet_port(alloc: Global) -> MemPort
 }
 
 // Makes room in the port of a slave for so many datagrams, of so many octets in all.
-fn make_room(
-    alloc: Global,
-    slave: &mut Slave<MemPort>,
-    datagrams: usize,
-    octets: usize,
-) -> Result<(), OutOfMemory>
+#[tactic(auto, unfolding(ptu_slave::specs::Seen::seen))]
+fn make_room(slave: &mut Slave<MemPort>, datagrams: usize, octets: usize) -> Result<(), OutOfMemory>
     requires few { datagrams ≤ 32 }
     ensures same { (seen_by held slave.new).port.sent ≡
         (seen_by held slave.old).port.sent }
@@ -381,10 +375,7 @@ fn make_room(
         (seen_by held slave.old)
         { port = (seen_by held slave.new).port } }
 {
-    let mut port = slave.replace_port(quiet_port(alloc));
-    let made = port.reserve(datagrams, octets);
-    slave.replace_port(port);
-    made
+    slave.port().reserve(datagrams, octets)
 }
 
 // The slave takes a datagram, with room for its reply.
@@ -408,12 +399,12 @@ fn take(
         HasSteppedTo ip (seen_by held slave.new) s
         (node.datagram_deed s.opened s.taken at from octets.now)) }
 {
-    make_room(alloc, slave, 1, LONGEST_SIGNALING)?;
+    make_room(slave, 1, LONGEST_SIGNALING)?;
     slave.take(alloc, at, from, octets)
 }
 
 // The slave ticks, with room for all that it may send.
-fn tick(alloc: Global, slave: &mut Slave<MemPort>, at: Moment) -> Result<(), OutOfMemory>
+fn tick(slave: &mut Slave<MemPort>, at: Moment) -> Result<(), OutOfMemory>
     requires moment { at < 2 ^ 62 }
     ensures { OnOk result ((ip : ℕ) (begun : Bool) (s : Described) →
         IsNode ip (seen_by held slave.old) begun s →
@@ -421,20 +412,20 @@ fn tick(alloc: Global, slave: &mut Slave<MemPort>, at: Moment) -> Result<(), Out
         (node.deed s.opened s.taken at Tick)) }
 {
     let octets = MASTERS * (LONGEST_SIGNALING + SYNC_LENGTH);
-    make_room(alloc, slave, 2 * MASTERS, octets)?;
+    make_room(slave, 2 * MASTERS, octets)?;
     slave.tick(at);
     Ok(())
 }
 
 // The slave stops, with room for all that it may send.
-fn stop(alloc: Global, slave: &mut Slave<MemPort>, at: Moment) -> Result<(), OutOfMemory>
+fn stop(slave: &mut Slave<MemPort>, at: Moment) -> Result<(), OutOfMemory>
     requires moment { at < 2 ^ 62 }
     ensures { OnOk result ((ip : ℕ) (begun : Bool) (s : Described) →
         IsNode ip (seen_by held slave.old) begun s →
         HasSteppedTo ip (seen_by held slave.new) s
         (node.deed s.opened s.taken at Stop)) }
 {
-    make_room(alloc, slave, MASTERS, MASTERS * LONGEST_SIGNALING)?;
+    make_room(slave, MASTERS, MASTERS * LONGEST_SIGNALING)?;
     slave.stop(at);
     Ok(())
 }

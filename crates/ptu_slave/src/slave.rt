@@ -359,16 +359,6 @@ impl<P: Port> Slave<P> {
         self.port.receive(buf)
     }
 
-    /// Puts another port in the place of its own, which it gives up.
-    #[tactic(auto, unfolding(crate::specs::Seen::seen))]
-    pub fn replace_port(&mut self, port: P) -> P
-        ensures former { result ≡ (seen held self.old).port }
-        ensures rest_is { seen held self.new
-            ≡ record (seen held self.old) { port = port } }
-    {
-        std::mem::replace(&mut self.port, port)
-    }
-
     /// The port, as it is. The rest is dropped.
     #[tactic(auto, unfolding(crate::specs::Seen::seen))]
     pub fn into_port(self) -> P
