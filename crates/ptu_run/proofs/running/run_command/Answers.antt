@@ -56,7 +56,8 @@ returns-in-Audit-clause-ended g c =
 
 pub returns-in-Audit-clause-audited : goal.returns-in-Audit-clause-audited
 returns-in-Audit-clause-audited g c = λ capacity is.
-    let same : c.in-Audit.capacity ≡ capacity = (let both : Audit c.in-Audit.capacity ≡ Audit capacity = sym c.in-Audit.is ∙ is in cc) in
+    let named : c.in-Audit.capacity ≡ capacity = (let both : Audit c.in-Audit.capacity ≡ Audit capacity = sym c.in-Audit.is ∙ is in cc) in
+    let same : c.get.result ≡ capacity = c.get.ensures.value ∙ named in
     subst (λ n. HasAudited g.K.Sink.written g.K.Sink.handed c.args.sink.now c.audit.new.sink c.args.host.now c.args.host.now (g.S.Source.left c.args.source.now) (g.S.Source.left c.audit.new.source) n c.audit_status.result)
     same
     (record {
