@@ -1,6 +1,6 @@
 //! The lines that `pools` writes.
 
-ghost use Rattle.std.specs.{Prelude.{◌≡◌, ◌++◌, OnOk, codes}, Fmt.{decimal}};
+ghost use Rattle.std.specs.{Prelude.{◌≡◌, ◌++◌, [], OnOk, codes}, Fmt.{decimal}};
 ghost use Rattle.ptu_texts.specs.Texts.{address_text};
 ghost use Rattle.ptu_report_lines.specs.Statements.{channel_text};
 ghost use Rattle.ptu_pool_run.specs.Output.{pool_line_text};
@@ -38,21 +38,22 @@ pub enum PoolLine<'a> {
     },
 }
 
-// What stands before the digits of a datagram that was sent.
-fn sent_head(number: u64, pool: usize, channel: Channel, to: u32) -> LineText
-    ensures { result.text ≡ decimal number ++ (codes " pool " ++ (decimal pool ++ (codes " send "
+// Puts what stands before the digits of a datagram that was sent into an empty line.
+#[inline(always)]
+fn put_sent_head(number: u64, pool: usize, channel: Channel, to: u32, line: &mut LineText)
+    requires empty { line.old.text ≡ [] }
+    requires room { line.old.room ≡ 160 }
+    ensures { line.new.text ≡ decimal number ++ (codes " pool " ++ (decimal pool ++ (codes " send "
         ++ (channel_text channel ++ (codes " " ++ (address_text to ++ codes " ")))))) }
 {
-    let mut line = LineText::new();
     line.put_str(" ");
-    AddressText(to).put(&mut line);
+    AddressText(to).put(line);
     line.put_str(" ");
-    ChannelText(channel).put(&mut line);
+    ChannelText(channel).put(line);
     line.put_str(" send ");
     line.put_number(pool as u64);
     line.put_str(" pool ");
     line.put_number(number);
-    line
 }
 
 impl Text for PoolLine<'_> {
@@ -68,7 +69,8 @@ impl Text for PoolLine<'_> {
                 to,
                 octets,
             } => {
-                draft.put_line(&sent_head(*line, *pool, *channel, *to))?;
+                put_sent_head(*line, *pool, *channel, *to, &mut text);
+                draft.put_line(&text)?;
                 draft.put_digits(octets.as_slice())?;
                 return draft.put_octets(b"\n");
             }
