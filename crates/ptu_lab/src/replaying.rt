@@ -51,7 +51,7 @@ impl Reporter for Replayer {
     ghost stands_for = { λ replayer course.
         LabStandsFor (λ j. (Judge-box j).Judge.held j.value) replayer.lab course };
 
-    #[inline(always)]
+    #[inline(never)]
     #[tactic(auto, unfolding(ptu_world::specs::Report::rules))]
     fn take(
         &mut self,

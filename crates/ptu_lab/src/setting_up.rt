@@ -52,6 +52,7 @@ impl Lab {
     ///
     /// # Errors
     /// `OutOfMemory`. The journal is as before, and nothing is said of the nodes: the run ends.
+    #[inline(never)]
     pub fn set_up_grandmaster(
         &mut self,
         setup: &GrandmasterSetup,
@@ -72,6 +73,7 @@ impl Lab {
     ///
     /// # Errors
     /// `OutOfMemory`. The journal is as before, and nothing is said of the nodes: the run ends.
+    #[inline(never)]
     pub fn set_up_slave(&mut self, setup: &SlaveSetup) -> Result<Option<Cause>, OutOfMemory>
         ensures made { IfOk result (λ refused. (line : ℕ) → HasObeyed held
             self.old self.new line [] (commands.Slave setup.now) refused) }
@@ -89,6 +91,7 @@ impl Lab {
     ///
     /// # Errors
     /// `OutOfMemory`. The journal is as before, and nothing is said of the nodes: the run ends.
+    #[inline(never)]
     pub fn add_master(
         &mut self,
         slave: u32,
