@@ -2,6 +2,8 @@
 
 use ptu_config::{Key, RefusalLine, SetupFault, gm_setup, slave_setup};
 use ptu_outside::MemSource;
+use ptu_units::Capacity;
+use std::alloc::Global;
 use std::test::Fail;
 
 const GM: &str = "ip = \"127.0.0.1\"\nclock = \"0a00000000000001\"\ncapacity = 8\nrounds = 1\n";
@@ -9,14 +11,26 @@ const GM: &str = "ip = \"127.0.0.1\"\nclock = \"0a00000000000001\"\ncapacity = 8
 const SLAVE: &str = "ip = \"127.0.0.1\"\nclock = \"0a00000000000011\"\nrounds = 1\n\
     [[masters]]\nip = \"10.0.0.1\"\n[[masters]]\nip = \"10.0.0.2\"\njudge = \"gap\"\n";
 
+// The capacities of the grandmaster that is set up, or why none is, where the reads with these
+// numbers fail.
+fn set_up(
+    alloc: Global,
+    failing: Vec<u64>,
+) -> Result<Result<(Capacity, Option<Capacity>), SetupFault>, Fail> {
+    let mut source = MemSource::new(GM.as_bytes().to_vec(alloc)?, failing);
+    Ok(match gm_setup(alloc, &mut source) {
+        Ok(settings) => Ok((settings.capacity, settings.new_capacity)),
+        Err(fault) => Err(fault),
+    })
+}
+
 // The first read fails, or the one behind all octets.
 #[test]
 fn a_read_that_fails_sets_nothing_up(rt: HostRuntime) -> Result<(), Fail> {
     let alloc = rt.alloc();
     for call in [1, 2] {
-        let mut source = MemSource::new(GM.as_bytes().to_vec(alloc)?, vec![in alloc; call]?);
-        let fault = gm_setup(alloc, &mut source).err();
-        assert_eq!(rt; fault, Some(SetupFault::Read));
+        let answer = set_up(alloc, vec![in alloc; call]?)?;
+        assert_eq!(rt; answer, Err(SetupFault::Read));
     }
     Ok(())
 }
