@@ -1,24 +1,24 @@
 -- The rounds before a change of capacity, the CANCELs, and the other rounds, one after the other.
-use Rattle.std.proofs.Common.{◌≡◌, ◌∙◌, ℕ, suc, zero, ◌+◌, ◌*◌, ◌-◌, ◌^◌, ◌≤◌, min, Bool, true, ◌++◌, List, [], ◌∷◌, length, length-append, take, drop, refl, sym, ap, subst, arith, Option, Some, None, Result, Ok, Err}
-use Rattle.std.specs.{Prelude.{IfNone, IfOk, IfSome, option_map}, List.{All, items_where_true}}
+use Rattle.std.proofs.Common.{◌≡◌, ◌∙◌, ℕ, suc, zero, ◌+◌, ◌*◌, ◌-◌, ◌^◌, ◌≤◌, min, Bool, true, false, ◌++◌, List, [], ◌∷◌, length, length-append, take, drop, refl, sym, ap, subst, arith, Option, Some, None, Result, Ok, Err}
+use Rattle.std.specs.{Prelude.{IfNone, IfOk, IfSome, option_map}, List.{All, AllByRecursion, items_where_true}}
 use Rattle.std.proofs.lemmas.{List.{append-nil, drop-drop, map-append}, List.Elements.{All-append}}
 use Rattle.std.proofs.{lemmas.List.Sums.{sum_by-append}, Math.Seq.{take-add}}
 use Rattle.ptu_units.specs.declared.kind.Kind.{Kind}
 use Rattle.ptu_outside.specs.declared.{arrival.Arrival.{Arrival}, opened.Opened.{Opened}}
 use Rattle.ptu_outside.specs.declared.{clock.Clock.{Ghosts as Clocks}, port.Port.{Ghosts as Ports}}
-use Rattle.ptu_outside.specs.{Departure.{Departure}, Telling.{IfTold}}
+use Rattle.ptu_outside.specs.{Departure.{Departure}, Telling.{IfTold, TellsOn}}
 use Rattle.ptu_outside.specs.{Faults.{HasRisen, HasNotFallen}, HandsOver.{HandsOver, SentOf}}
 use Rattle.ptu_outside.proofs.HandsOver.{goes_on_both, none_failed, not_fallen_both, rises_first, rises_second, told_both}
 use Rattle.ptu_history.specs.declared.client.Client.{Client}
 use Rattle.ptu_profile.specs.declared.grandmaster.GmConfig.{GmConfig}
-use Rattle.ptu_shared.specs.{Histories.{SendsLawfully}, Opening.{HaveFailed, Seen, seen_of}, Seats.{SeatCounts, no_verdicts}}
+use Rattle.ptu_shared.specs.{Histories.{SendsLawfully}, Opening.{HaveFailed, Seen, seen_of}, Seats.{SeatCounts, no_verdicts}, Turning.{Turns}}
 use Rattle.ptu_shared.proofs.Failing.{failed-append, failed_hands, failed_none}
 use Rattle.ptu_gm_messages.specs.Replies.{cancels_to}
 use Rattle.ptu_config.specs.{declared.settings.GmSettings.{GmSettings}, Rounds.{all_rounds}}
 use Rattle.ptu_lanes.specs.Answers.{asks_among, grants_among}
-use Rattle.ptu_outside.specs.{Handed.{WasHanded}, Ports.{HaveRisenBy, HaveRisenJust}}
+use Rattle.ptu_outside.specs.{Handed.{SentPart, WasHanded}, Ports.{HaveRisenBy, HaveRisenJust}}
 use Rattle.ptu_lanes.specs.declared.{lanes.Lanes.{Lanes}, serving.Totals.{Totals}}
-use Rattle.ptu_lanes.specs.Crew.{LanesServed, ServedSignaling}
+use Rattle.ptu_lanes.specs.Crew.{LanesServed, ServedSignaling, turns_by}
 use Rattle.ptu_lanes.specs.Rounds.{Exchange, Exchanged, IsAnswered, answers_of, asks_in, datagrams, grants_in, items_of, replies}
 use Rattle.ptu_lanes.specs.{Sending.{GoesOn, WasSent}, Waiting.{PassedBy}}
 use Rattle.ptu_lanes.specs.Changing.{change_moments, change_of, early_rounds, peak_capacity, last_capacity, moments_to, rounds_before}
@@ -333,14 +333,31 @@ still_idle ports opened closed seen p q (suc zero) = q.1 ∙ sym (ap (λ (s : Se
 still_idle ports opened closed seen p q (suc (suc zero)) = q.2 ∙ sym (ap (λ (s : Seen). s.waiting) p.2)
 still_idle ports opened closed seen p q (suc (suc (suc n))) = q.3 ∙ sym (ap (λ (s : Seen). s.waiting) p.3)
 
+-- the same history, since what was seen when the port was opened
+lawful_since : {P : Type 0} (ports : Ports P) (config : GmConfig) (j : ℕ) (opened seen now : Seen) → opened ≡ seen → SendsLawfully ports config j seen now → SendsLawfully ports config j opened now
+lawful_since ports config j opened seen now same h = record {
+  history = h.history;
+  follows = h.follows;
+  parts = h.parts;
+  made = h.made;
+  messages = h.messages;
+  are = h.are;
+  sent = h.sent;
+  part = subst (λ (s : Seen). SentPart s.sent now.sent s.faults now.faults h.messages h.sent) (sym same) h.part;
+  goes_on = subst (λ (s : Seen). ¬ HasRisen s.faults now.faults → AllByRecursion (λ d. ports.ceases_at d ≡ false) h.messages → TellsOn s.sent now.sent) (sym same) h.goes_on;
+  failed = h.failed;
+  each = h.each;
+  failures = subst (λ (s : Seen). HaveFailed ports.counts_once h.failed s.faults now.faults) (sym same) h.failures;
+}
+
 sent_since : {P C : Type 0} (ports : Ports P) (config : GmConfig) (opened closed : Opened P C) (seen : ℕ → Seen) →
     (seen_of ports opened.p0 ≡ seen 0) × (seen_of ports opened.p1 ≡ seen 1) × (seen_of ports opened.p2 ≡ seen 2) × (seen_of ports opened.p3 ≡ seen 3) →
     TablesSentLawfully ports config seen closed → TablesSentLawfully ports config (seen_at ports opened) closed
 sent_since ports config opened closed seen p h = record {
-  p0 = subst (λ (s : Seen). SendsLawfully ports config 0 s (seen_of ports closed.p0)) (sym p.0) h.p0;
-  p1 = subst (λ (s : Seen). SendsLawfully ports config 1 s (seen_of ports closed.p1)) (sym p.1) h.p1;
-  p2 = subst (λ (s : Seen). SendsLawfully ports config 2 s (seen_of ports closed.p2)) (sym p.2) h.p2;
-  p3 = subst (λ (s : Seen). SendsLawfully ports config 3 s (seen_of ports closed.p3)) (sym p.3) h.p3;
+  p0 = lawful_since ports config 0 (seen_of ports opened.p0) (seen 0) (seen_of ports closed.p0) p.0 h.p0;
+  p1 = lawful_since ports config 1 (seen_of ports opened.p1) (seen 1) (seen_of ports closed.p1) p.1 h.p1;
+  p2 = lawful_since ports config 2 (seen_of ports opened.p2) (seen 2) (seen_of ports closed.p2) p.2 h.p2;
+  p3 = lawful_since ports config 3 (seen_of ports opened.p3) (seen 3) (seen_of ports closed.p3) p.3 h.p3;
 }
 
 -- what failed at six ports
@@ -373,8 +390,13 @@ many_told (Some before) (Some now) datagrams sent h =
     let size : length before + sent ≡ length now = ap (λ n. length before + n) (sym h.many) ∙ sym (length-append before items) ∙ ap length grown in
     ap Some size
 
+-- a count of turns that is known
+counted_turns : (turns : Option ℕ) (rounds times : ℕ) → turns ≡ Some (0 + rounds) → IfSome turns (λ n. times ≡ n) → times ≡ rounds
+counted_turns None rounds times is known = absurd (cc is)
+counted_turns (Some n) rounds times is known = let same : n ≡ 0 + rounds = cc is in omega (arith, same, known)
+
 -- lanes at their end, whose ports, clocks and counts are those that are given back
-pub serves_by_lanes : {P C G R : Type 0} (ports : Ports P) (clocks : Clocks C) (settings : GmSettings) (config : GmConfig) (opened closed : Opened P C) (totals : Totals) (lanes : Lanes P C G R)
+pub serves_by_lanes : {P C L G R : Type 0} (ports : Ports P) (clocks : Clocks C) (settings : GmSettings) (config : GmConfig) (opened closed : Opened P C) (totals : Totals) (lanes : Lanes P C L G R)
     (capacity : ℕ) (seen : ℕ → Seen) → capacity ≡ last_capacity settings →
     (seen_of ports opened.p0 ≡ seen 0) × (seen_of ports opened.p1 ≡ seen 1) × (seen_of ports opened.p2 ≡ seen 2) × (seen_of ports opened.p3 ≡ seen 3) →
     LanesServed ports clocks settings config opened lanes →
@@ -382,8 +404,9 @@ pub serves_by_lanes : {P C G R : Type 0} (ports : Ports P) (clocks : Clocks C) (
     (closed.c0 ≡ lanes.control.clock) × (closed.c1 ≡ lanes.event.clock) × (closed.c2 ≡ lanes.sending.first.clock) × (closed.c3 ≡ lanes.sending.second.clock)
     × (closed.c4 ≡ lanes.sending.third.clock) × (closed.c5 ≡ lanes.sending.fourth.clock) →
     TablesAreBack ports seen closed totals.failed lanes.control.tally.failed lanes.event.failed →
-    (totals.granted ≡ lanes.control.seat.granted) × (totals.refused ≡ lanes.control.seat.refused) → totals.held ≤ capacity → TablesSent ports config seen closed lanes.control.tally.sent totals.sent →
+    (totals.granted ≡ lanes.control.seat.granted) × (totals.refused ≡ lanes.control.seat.refused) → totals.held ≤ capacity → TablesSent ports config seen closed lanes.control.tally.sent totals.sent (turns_by lanes.sending) →
     ServesByLanes ports clocks settings config opened closed (numbers_of totals)
+unfolding sent_since lawful_since
 serves_by_lanes ports clocks settings config opened closed totals lanes capacity seen is opens did same moved back counted within sends =
     let failed = lanes.control.tally.failed in
     let missed = lanes.event.failed in
@@ -401,6 +424,12 @@ serves_by_lanes ports clocks settings config opened closed totals lanes capacity
       turned3 = rw (moved.5) did.fourth;
       idle = still_idle ports opened closed seen opens back.waits;
       lawful = sent_since ports config opened closed seen opens sends.0;
+      turned = (
+        counted_turns (turns_by lanes.sending).t0 (all_rounds settings) _ (ap (λ (t : Turns). t.t0) did.turned) sends.2,
+        counted_turns (turns_by lanes.sending).t1 (all_rounds settings) _ (ap (λ (t : Turns). t.t1) did.turned) sends.3,
+        counted_turns (turns_by lanes.sending).t2 (all_rounds settings) _ (ap (λ (t : Turns). t.t2) did.turned) sends.4,
+        counted_turns (turns_by lanes.sending).t3 (all_rounds settings) _ (ap (λ (t : Turns). t.t3) did.turned) sends.5,
+      );
       sent = (
         sends.0.p0.sent + (sends.0.p1.sent + (sends.0.p2.sent + (sends.0.p3.sent + (did.control.exchanged.sent + 0)))),
         omega (arith, sends.1, did.control.sends),

@@ -4,10 +4,10 @@ use Rattle.std.specs.Prelude.{◌≡◌, ℕ, ◌+◌, ◌-◌, ◌*◌, ◌^◌
 use Rattle.ptu_outside.specs.declared.{clock.Clock.{Ghosts as Clocks}, opened.Opened.{Opened}, port.Port.{Ghosts as Ports}}
 use Rattle.ptu_outside.specs.Faults.{HasRisen}
 use Rattle.ptu_profile.specs.declared.grandmaster.GmConfig.{GmConfig}
-use Rattle.ptu_shared.specs.{Opening.{HaveFailed}, Seats.{SeatCounts}}
+use Rattle.ptu_shared.specs.{Opening.{HaveFailed}, Seats.{SeatCounts}, Turning.{Turns, after_rounds, all_turns, both_turns}}
 use Rattle.ptu_config.specs.{declared.settings.GmSettings.{GmSettings}, Rounds.{all_rounds}}
 use Rattle.ptu_lanes.specs.Served.{ExchangedAll, IsControlled}
-use Rattle.ptu_lanes.specs.{Stretches.{EventLaneDid, TookDelayReqs}, Waiting.{TurnedOwn}}
+use Rattle.ptu_lanes.specs.{Stretches.{EventLaneDid, SendingLaneDid, TookDelayReqs}, Waiting.{TurnedOwn}}
 use Rattle.ptu_lanes.specs.declared.lanes.{EventLane.{EventLane}, Lanes.{Lanes}, SendingLane.{SendingLane}, SendingLanes.{SendingLanes}}
 use Rattle.ptu_lanes.specs.declared.calls.{Call.{Call}, Called.{Called}, EventWork.{EventWork}, SendingCalls.{SendingCalls}, SendingWork.{SendingWork}}
 use Rattle.ptu_lanes.specs.declared.calls.Call.TheVariants as calls
@@ -48,22 +48,20 @@ HasLeft lane (Idle back) = lane ≡ back
 abbrev pub EventKept : {P C : Type 0} → Ports P → Clocks C → EventWork P C → Called (EventLane P C) → Type 0
 EventKept ports clocks work called = CrewCameTo (EventLaneDid ports clocks work.rounds work.lane.value) work.lane.value called
 
-abbrev pub SendingKept : {C : Type 0} → Clocks C → SendingWork C → Called (SendingLane C) → Type 0
-SendingKept clocks work called =
-    CrewCameTo (λ new. TurnedOwn clocks work.position.count work.position.index work.rounds work.lane.value.clock new.clock) work.lane.value called
+abbrev pub SendingKept : {C L : Type 0} → Clocks C → SendingWork C L → Called (SendingLane C L) → Type 0
+SendingKept clocks work called = CrewCameTo (SendingLaneDid clocks work.rounds work.lane.value) work.lane.value called
 
 -- ---- all lanes
 
--- the lane of this index that turns tables is at work so
-abbrev pub IsTurning : {C : Type 0} → Clocks C → ℕ → ℕ → ℕ → SendingLane C → Call (Called (SendingLane C)) (SendingWork C) → Type 0
-IsTurning clocks lanes lane rounds old call =
-    IsAtWork (λ (new : SendingLane _). TurnedOwn clocks lanes lane rounds old.clock new.clock) old (SendingKept clocks) call
+-- the lane that turns tables is at work so
+abbrev pub IsTurning : {C L : Type 0} → Clocks C → ℕ → SendingLane C L → Call (Called (SendingLane C L)) (SendingWork C L) → Type 0
+IsTurning clocks rounds old call = IsAtWork (SendingLaneDid clocks rounds old) old (SendingKept clocks) call
 
-pub record AreTurning {C : Type 0} (clocks : Clocks C) (lanes rounds : ℕ) (old : SendingLanes C) (calls : SendingCalls C) : Type 0 where
-  pub first : IsTurning clocks lanes 0 rounds old.first calls.first
-  pub second : IsTurning clocks lanes 1 rounds old.second calls.second
-  pub third : IsTurning clocks lanes 2 rounds old.third calls.third
-  pub fourth : IsTurning clocks lanes 3 rounds old.fourth calls.fourth
+pub record AreTurning {C L : Type 0} (clocks : Clocks C) (rounds : ℕ) (old : SendingLanes C L) (calls : SendingCalls C L) : Type 0 where
+  pub first : IsTurning clocks rounds old.first calls.first
+  pub second : IsTurning clocks rounds old.second calls.second
+  pub third : IsTurning clocks rounds old.third calls.third
+  pub fourth : IsTurning clocks rounds old.fourth calls.fourth
 
 -- what the lane did that takes Signaling in all rounds, with the change of capacity: its port and its clock, before and after, what
 -- its seat has counted, how many datagrams it has counted that were sent, and how many calls of the port failed
@@ -74,8 +72,12 @@ pub record ServedSignaling {P C : Type 0} (ports : Ports P) (clocks : Clocks C) 
   pub sends : gone ≡ min exchanged.sent (2 ^ 128 - 1)
   pub failed : HaveFailed ports.counts_once failures (ports.faults port) (ports.faults port')
 
+-- how often the lanes have turned each table
+abbrev pub turns_by : {C L : Type 0} → SendingLanes C L → Turns
+turns_by lanes = both_turns lanes.first.turner (both_turns lanes.second.turner (both_turns lanes.third.turner lanes.fourth.turner))
+
 -- all lanes did all rounds, between these ports and clocks as they were opened, and as the lanes have them
-pub record LanesServed {P C G R : Type 0} (ports : Ports P) (clocks : Clocks C) (settings : GmSettings) (config : GmConfig) (opened : Opened P C) (lanes : Lanes P C G R) : Type 0 where
+pub record LanesServed {P C L G R : Type 0} (ports : Ports P) (clocks : Clocks C) (settings : GmSettings) (config : GmConfig) (opened : Opened P C) (lanes : Lanes P C L G R) : Type 0 where
   pub control : ServedSignaling ports clocks settings config opened.p4 lanes.control.port opened.c0 lanes.control.clock
       lanes.control.seat lanes.control.tally.sent lanes.control.tally.failed
   pub event : TookDelayReqs ports clocks (all_rounds settings) opened.p5 lanes.event.port opened.c1 lanes.event.clock 0 lanes.event.failed
@@ -83,8 +85,10 @@ pub record LanesServed {P C G R : Type 0} (ports : Ports P) (clocks : Clocks C) 
   pub second : TurnedOwn clocks settings.senders 1 (all_rounds settings) opened.c3 lanes.sending.second.clock
   pub third : TurnedOwn clocks settings.senders 2 (all_rounds settings) opened.c4 lanes.sending.third.clock
   pub fourth : TurnedOwn clocks settings.senders 3 (all_rounds settings) opened.c5 lanes.sending.fourth.clock
+  -- each table was turned once in each round
+  pub turned : turns_by lanes.sending ≡ after_rounds (all_rounds settings) all_turns
 
 -- the lanes did all rounds, and no seat is left; or a lane was refused its thread, and all is as it was opened
-abbrev pub HasDone : {P C G R : Type 0} → Ports P → Clocks C → GmSettings → GmConfig → Opened P C → Done P C G R → Type 0
+abbrev pub HasDone : {P C L G R : Type 0} → Ports P → Clocks C → GmSettings → GmConfig → Opened P C → Done P C L G R → Type 0
 HasDone ports clocks settings config opened (dones.Served lanes seats) = LanesServed ports clocks settings config opened lanes × (seats.items ≡ [])
 HasDone ports clocks settings config opened (dones.Refused back) = back ≡ opened

@@ -8,7 +8,7 @@ use Rattle.ptu_outside.specs.declared.{opened.Opened.{Opened}, port.Port.{Ghosts
 use Rattle.ptu_outside.specs.{Departure.{Departure}, Faults.{HasRisen}}
 use Rattle.ptu_history.specs.declared.client.Client.{Client}
 use Rattle.ptu_profile.specs.declared.grandmaster.GmConfig.{GmConfig}
-use Rattle.ptu_shared.specs.{Histories.{SendsLawfully}, Opening.{HaveFailed, Seen, seen_of}}
+use Rattle.ptu_shared.specs.{Histories.{SendsLawfully}, Opening.{HaveFailed, Seen, seen_of}, Turning.{Turns, turns_in}}
 use Rattle.ptu_gm_messages.specs.Replies.{cancels_to}
 use Rattle.ptu_config.specs.{declared.settings.GmSettings.{GmSettings}, Rounds.{all_rounds}}
 use Rattle.ptu_outside.specs.{Handed.{WasHanded}, Ports.{HaveRisenBy, HaveRisenJust, WereSent, ports_of, senders_of}}
@@ -125,12 +125,19 @@ pub record TablesSentLawfully {P C : Type 0} (ports : Ports P) (config : GmConfi
   pub p2 : SendsLawfully ports config 2 (seen 2) (seen_of ports closed.p2)
   pub p3 : SendsLawfully ports config 3 (seen 3) (seen_of ports closed.p3)
 
+-- each table was turned so often, by its history
+abbrev pub TablesTurned : {P C : Type 0} {ports : Ports P} {config : GmConfig} {seen : ℕ → Seen} {closed : Opened P C} → TablesSentLawfully ports config seen closed → ℕ → Type 0
+TablesTurned lawful times =
+    (turns_in lawful.p0.parts ≡ times) × (turns_in lawful.p1.parts ≡ times) × (turns_in lawful.p2.parts ≡ times) × (turns_in lawful.p3.parts ≡ times)
+
 -- the same, and the number is how many messages of theirs were sent, with the replies that were sent by port 4; one that would be above
--- 2^128 - 1 stands there
-abbrev pub TablesSent : {P C : Type 0} → Ports P → GmConfig → (ℕ → Seen) → Opened P C → ℕ → ℕ → Type 0
-TablesSent ports config seen closed replies sent =
+-- 2^128 - 1 stands there; and each table was turned so often, where that is known
+abbrev pub TablesSent : {P C : Type 0} → Ports P → GmConfig → (ℕ → Seen) → Opened P C → ℕ → ℕ → Turns → Type 0
+TablesSent ports config seen closed replies sent turns =
     (lawful : TablesSentLawfully ports config seen closed)
     × (sent ≡ min (lawful.p0.sent + (lawful.p1.sent + (lawful.p2.sent + (lawful.p3.sent + (replies + 0))))) (2 ^ 128 - 1))
+    × IfSome turns.t0 (λ n. turns_in lawful.p0.parts ≡ n) × IfSome turns.t1 (λ n. turns_in lawful.p1.parts ≡ n)
+    × IfSome turns.t2 (λ n. turns_in lawful.p2.parts ≡ n) × IfSome turns.t3 (λ n. turns_in lawful.p3.parts ≡ n)
 
 -- between these ports and clocks as they were opened, and as they are to be given back, lanes served a grandmaster of these settings,
 -- with these numbers at the end
@@ -158,6 +165,8 @@ pub record ServesByLanes {P C : Type 0} (ports : Ports P) (clocks : Clocks C) (s
   -- and what they were sent are, in order, messages of a history of the table: each to one of its clients, inside a live grant of the
   -- kind, in its own period, and with the sequenceId that is next
   pub lawful : TablesSentLawfully ports config (seen_at ports opened) closed
+  -- in each round each table was turned once, which is when the message of each grant that is due goes
+  pub turned : TablesTurned lawful (all_rounds settings)
   -- what was sent is the number of datagrams that ports 0 to 4 were sent, whatever the counts did
   pub sent : CountSends numbers.sent (map ports.sent (senders_of opened)) (map ports.sent (senders_of closed))
   -- what failed is at most what the counts of faults rose by together, and just that where each call that fails counts one fault;

@@ -4,11 +4,11 @@ use Rattle.std.specs.List.{All}
 use Rattle.ptu_outside.specs.declared.{arrival.Arrival.{Arrival}, clock.Clock.{Ghosts as Clocks}}
 use Rattle.ptu_outside.specs.{declared.port.Port.{Ghosts as Ports}, Faults.{HasNotFallen, HasRisen}}
 use Rattle.ptu_profile.specs.declared.grandmaster.GmConfig.{GmConfig}
-use Rattle.ptu_shared.specs.{Opening.{HaveFailed}, Seats.{SeatCounts}}
+use Rattle.ptu_shared.specs.{Opening.{HaveFailed}, Seats.{SeatCounts}, Turning.{Turns, after_rounds}}
 use Rattle.ptu_lanes.specs.Rounds.{Exchange, Exchanged, IsAnswered, asks_in, datagrams, grants_in, replies}
-use Rattle.ptu_lanes.specs.{Sending.{GoesOn, WasSent}, Waiting.{GaveFirst, MissedFew, Took, TurnedOwn}}
+use Rattle.ptu_lanes.specs.{Sending.{GoesOn, WasSent}, Waiting.{GaveFirst, MissedFew, PassedBy, Took, rights}}
 use Rattle.ptu_lanes.specs.declared.lanes.{ControlLane.{ControlLane}, EventLane.{EventLane}}
-use Rattle.ptu_lanes.specs.declared.lanes.SendingLanes.{SendingLanes}
+use Rattle.ptu_lanes.specs.declared.lanes.{SendingLane.{SendingLane}, SendingLanes.{SendingLanes}}
 
 -- so many rounds at a port that tells what waits: the lane took the first 64 datagrams for each round, or all where there are
 -- fewer, and sent one reply for each that has an item, in order, and nothing else; the port goes on to tell, unless a reply
@@ -65,9 +65,19 @@ pub record TookDelayReqs {P C : Type 0} (ports : Ports P) (clocks : Clocks C) (r
 abbrev pub EventLaneDid : {P C : Type 0} → Ports P → Clocks C → ℕ → EventLane P C → EventLane P C → Type 0
 EventLaneDid ports clocks rounds old new = TookDelayReqs ports clocks rounds old.port new.port old.clock new.clock old.failed new.failed
 
--- the lanes that turn tables, of which so many are at work, did so many rounds
-pub record HaveTurned {C : Type 0} (clocks : Clocks C) (lanes rounds : ℕ) (old new : SendingLanes C) : Type 0 where
-  pub first : TurnedOwn clocks lanes 0 rounds old.first.clock new.first.clock
-  pub second : TurnedOwn clocks lanes 1 rounds old.second.clock new.second.clock
-  pub third : TurnedOwn clocks lanes 2 rounds old.third.clock new.third.clock
-  pub fourth : TurnedOwn clocks lanes 3 rounds old.fourth.clock new.fourth.clock
+-- what a lane did that turns tables in so many rounds: its clock, of which it took a moment for each turn, and how often it has turned
+-- each table that it may turn, before and after
+pub record HasTurned {C : Type 0} (clocks : Clocks C) (rounds : ℕ) (clock clock' : C) (turns turns' : Turns) : Type 0 where
+  pub moments : PassedBy (rights turns * rounds) (clocks.moments clock) (clocks.moments clock')
+  pub turned : turns' ≡ after_rounds rounds turns
+
+-- the same of the lane, before and after
+abbrev pub SendingLaneDid : {C L : Type 0} → Clocks C → ℕ → SendingLane C L → SendingLane C L → Type 0
+SendingLaneDid clocks rounds old new = HasTurned clocks rounds old.clock new.clock old.turner new.turner
+
+-- the same of all four
+pub record HaveTurned {C L : Type 0} (clocks : Clocks C) (rounds : ℕ) (old new : SendingLanes C L) : Type 0 where
+  pub first : SendingLaneDid clocks rounds old.first new.first
+  pub second : SendingLaneDid clocks rounds old.second new.second
+  pub third : SendingLaneDid clocks rounds old.third new.third
+  pub fourth : SendingLaneDid clocks rounds old.fourth new.fourth

@@ -1,8 +1,8 @@
 -- What a lane takes of what waits at its port, and of the moments of its clock.
-use Rattle.std.specs.Prelude.{◌≡◌, ℕ, suc, zero, ◌+◌, ◌*◌, ◌%◌, ◌==◌, ◌≤◌, if◌then◌else◌, List, ◌++◌, length, drop, Option, Some, IfSome, option_map}
+use Rattle.std.specs.Prelude.{◌≡◌, ℕ, suc, zero, ◌+◌, ◌*◌, ◌%◌, ◌==◌, ◌≤◌, if◌then◌else◌, List, ◌++◌, length, drop, Option, Some, IfSome, option_map, is_some}
 use Rattle.ptu_outside.specs.declared.{arrival.Arrival.{Arrival}, clock.Clock.{Ghosts as Clocks}}
 use Rattle.ptu_outside.specs.{declared.port.Port.{Ghosts as Ports}, Telling.{IfTold}}
-use Rattle.ptu_shared.specs.Opening.{HaveFailed}
+use Rattle.ptu_shared.specs.{Opening.{HaveFailed}, Turning.{Turns}}
 use Rattle.ptu_outside.specs.Rounds.{moments_after}
 
 -- between what waited at a port and what is left, where it still tells that, it gave the first datagrams: so many, or all where
@@ -34,6 +34,14 @@ pub record HasTaken {P C : Type 0} (ports : Ports P) (clocks : Clocks C) (count 
   pub unsent : ports.sent port' ≡ ports.sent port
   pub failures : HaveFailed ports.counts_once missed (ports.faults port) (ports.faults port')
   pub moments : PassedBy count (clocks.moments clock) (clocks.moments clock')
+
+-- whether a table may be turned, as a number
+abbrev pub one_right : Option ℕ → ℕ
+one_right turns = if is_some turns then 1 else 0
+
+-- how many of the four tables someone may turn
+abbrev pub rights : Turns → ℕ
+rights turns = 0 + one_right turns.t0 + one_right turns.t1 + one_right turns.t2 + one_right turns.t3
 
 -- of the tables below an index, how many the lane of this index turns, of so many lanes
 unfoldable pub own_below : ℕ → ℕ → ℕ → ℕ

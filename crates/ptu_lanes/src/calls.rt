@@ -3,8 +3,9 @@
 ghost use Rattle.std.specs.Prelude.{◌≡◌, IfOk};
 ghost use Rattle.ptu_lanes.specs.Crew.{Ends, EventKept, HasLeft, IsServed, SendingKept};
 
-use crate::lanes::{EventLane, Position, SendingLane};
+use crate::lanes::{EventLane, SendingLane};
 use ptu_outside::{Clock, Port};
+use ptu_shared::Rates;
 use ptu_units::OutOfMemory;
 use std::snapshot::Snapshot;
 use std::thread::{Promise, PromisedHandle, Threads};
@@ -83,15 +84,14 @@ impl<P: Port, C: Clock> Promise<Called<EventLane<P, C>>> for EventWork<P, C> {
     ghost kept_by = { λ work called. EventKept P.Port C.Clock work called };
 }
 
-/// What a lane that turns tables is called for: so many rounds of this lane, at this position.
+/// What a lane that turns tables is called for: so many rounds of this lane.
 #[derive(Drop)]
-pub(crate) struct SendingWork<C: Clock> {
-    pub lane: Snapshot<SendingLane<C>>,
-    pub position: Position,
+pub(crate) struct SendingWork<C: Clock, L: Rates> {
+    pub lane: Snapshot<SendingLane<C, L>>,
     pub rounds: u64,
 }
 
-impl<C: Clock> Promise<Called<SendingLane<C>>> for SendingWork<C> {
+impl<C: Clock, L: Rates> Promise<Called<SendingLane<C, L>>> for SendingWork<C, L> {
     ghost kept_by = { λ work called. SendingKept C.Clock work called };
 }
 
@@ -99,13 +99,13 @@ impl<C: Clock> Promise<Called<SendingLane<C>>> for SendingWork<C> {
 pub(crate) type EventCall<P, C> = Call<Called<EventLane<P, C>>, EventWork<P, C>>;
 
 /// The call of a lane that turns tables.
-pub(crate) type SendingCall<C> = Call<Called<SendingLane<C>>, SendingWork<C>>;
+pub(crate) type SendingCall<C, L> = Call<Called<SendingLane<C, L>>, SendingWork<C, L>>;
 
 /// The calls of all lanes that turn tables.
 #[derive(Drop)]
-pub(crate) struct SendingCalls<C: Clock> {
-    pub first: SendingCall<C>,
-    pub second: SendingCall<C>,
-    pub third: SendingCall<C>,
-    pub fourth: SendingCall<C>,
+pub(crate) struct SendingCalls<C: Clock, L: Rates> {
+    pub first: SendingCall<C, L>,
+    pub second: SendingCall<C, L>,
+    pub third: SendingCall<C, L>,
+    pub fourth: SendingCall<C, L>,
 }

@@ -7,17 +7,16 @@ ghost use Rattle.ptu_shared.specs.{Blanks.{IsBlankOf}, Opening.{seen_of}, Seats.
 ghost use Rattle.ptu_config.specs.{Limits.{IsGmInRange}, Rounds.{all_rounds}};
 ghost use Rattle.ptu_lanes.specs.Changing.{peak_capacity};
 ghost use Rattle.ptu_lanes.specs.Crew.{AreTurning, CrewCameTo, Ends, EventKept, HasDone, HasLeft, IsAtWork, IsServed, IsTurning, SendingKept, ServedSignaling};
-ghost use Rattle.ptu_lanes.specs.{Stretches.{EventLaneDid, HaveTurned}, Waiting.{TurnedOwn}};
+ghost use Rattle.ptu_shared.specs.Turning.{AreTurnBlanks};
+ghost use Rattle.ptu_lanes.specs.Stretches.{EventLaneDid, HaveTurned, SendingLaneDid};
 
 use crate::calls::{Call, Called, EventCall, EventWork, SendingCall, SendingCalls, SendingWork};
 use crate::changing::rounds_before_change;
-use crate::lanes::{
-    ControlLane, EventLane, Lanes, Position, Rounds, SendingLane, SendingLanes, Tally,
-};
+use crate::lanes::{ControlLane, EventLane, Lanes, Rounds, SendingLane, SendingLanes, Tally};
 use crate::service::{Base, Service};
 use ptu_config::GmSettings;
 use ptu_outside::{Clock, Meeting, Opened, Port};
-use ptu_shared::{Blanks, Rates, Seat, Shared, TablePorts};
+use ptu_shared::{Blanks, Ledgers, Rates, Seat, Shared, TablePorts, Turners};
 use ptu_units::OutOfMemory;
 use std::snapshot::Snapshot;
 use std::sync::ledger::Ledger;
@@ -31,9 +30,9 @@ pub(crate) type Gate<P, L, G, R> = OnceLock<Option<Shared<P, L, G, R>>>;
 
 /// How the calls of all lanes have ended.
 #[derive(Drop)]
-pub(crate) enum Done<P: Port, C: Clock, G: Ledger, R: Ledger> {
+pub(crate) enum Done<P: Port, C: Clock, L: Rates, G: Ledger, R: Ledger> {
     /// The lanes did all rounds. Beside them are the seats that no lane has: none.
-    Served(Lanes<P, C, G, R>, Vec<Seat<G, R>>),
+    Served(Lanes<P, C, L, G, R>, Vec<Seat<G, R>>),
     /// A lane was refused its thread. All is as it was opened.
     Refused(Opened<P, C>),
 }
@@ -48,22 +47,50 @@ pub(crate) struct Crew<'a, P: Port + Send, L: Rates, G: Ledger, R: Ledger, W> {
     pub threads: usize,
 }
 
-// The lanes that turn tables at these clocks, before their first round.
-fn sending_lanes<C: Clock>(c2: C, c3: C, c4: C, c5: C) -> SendingLanes<C>
-    ensures { (result.first.clock ≡ c2) × (result.second.clock ≡ c3)
+// The lanes that turn tables at these clocks, before their first round, by these rights.
+fn sending_lanes<C: Clock, L: Rates>(
+    turners: Turners<L>,
+    c2: C,
+    c3: C,
+    c4: C,
+    c5: C,
+) -> SendingLanes<C, L>
+    ensures clocks { (result.first.clock ≡ c2) × (result.second.clock ≡ c3)
         × (result.third.clock ≡ c4) × (result.fourth.clock ≡ c5) }
+    ensures turners { (result.first.turner ≡ turners.first)
+        × (result.second.turner ≡ turners.second) × (result.third.turner ≡ turners.third)
+        × (result.fourth.turner ≡ turners.fourth) }
 {
+    let Turners {
+        first,
+        second,
+        third,
+        fourth,
+    } = turners;
     SendingLanes {
-        first: SendingLane { clock: c2 },
-        second: SendingLane { clock: c3 },
-        third: SendingLane { clock: c4 },
-        fourth: SendingLane { clock: c5 },
+        first: SendingLane {
+            clock: c2,
+            turner: first,
+        },
+        second: SendingLane {
+            clock: c3,
+            turner: second,
+        },
+        third: SendingLane {
+            clock: c4,
+            turner: third,
+        },
+        fourth: SendingLane {
+            clock: c5,
+            turner: fourth,
+        },
     }
 }
 
 // How many lanes turn tables.
 fn sender_count(settings: &GmSettings) -> usize
-    ensures { result ≡ settings.now.senders }
+    ensures value { result ≡ settings.now.senders }
+    ensures most { result ≤ 4 }
 {
     usize::from(settings.senders.get())
 }
@@ -130,21 +157,13 @@ where
         }
     }
 
-    // The call of the lane at this position that turns tables.
-    fn call_sending<C: Clock>(
-        &self,
-        position: Position,
-        lane: SendingLane<C>,
-    ) -> Called<SendingLane<C>>
-        requires config { self.now.base.now.config.now ≡ L.config }
-        requires index { (position.index < position.count) × (position.count ≤ 4) }
-        ensures { CrewCameTo (λ new. TurnedOwn C.Clock position.count position.index
-            self.now.rounds.count lane.clock new.clock) lane result }
+    // The call of a lane that turns tables.
+    fn call_sending<C: Clock>(&self, lane: SendingLane<C, L>) -> Called<SendingLane<C, L>>
+        requires { self.now.base.now.config.now ≡ L.config }
+        ensures { CrewCameTo (SendingLaneDid C.Clock self.now.rounds.count lane) lane result }
     {
         match self.service() {
-            Some(service) => {
-                Called::Served(service.take_part_turning(&self.rounds, position, lane))
-            }
+            Some(service) => Called::Served(service.take_part_turning(&self.rounds, lane)),
             None => Called::Left(lane),
         }
     }
@@ -203,47 +222,42 @@ where
         )
     }
 
-    // The lane at this position that turns tables begins, if it is one of those at work.
+    // The lane of this index that turns tables begins, if it may turn one.
     fn start_sending<'s, E, C: Clock + Send + 's>(
         &'s self,
         scope: &Scope<'s, E>,
-        position: Position,
-        lane: SendingLane<C>,
-    ) -> SendingCall<C>
+        index: usize,
+        lane: SendingLane<C, L>,
+    ) -> SendingCall<C, L>
         requires config { self.now.base.now.config.now ≡ L.config }
-        requires index { (position.index < 4) × (1 ≤ position.count) × (position.count ≤ 4) }
-        ensures { IsTurning C.Clock position.count position.index self.now.rounds.count
-            lane result }
+        requires index { index < 4 }
+        ensures { IsTurning C.Clock self.now.rounds.count lane result }
     {
-        if position.count <= position.index {
+        if !lane.turner.may_turn_any() {
             return Call::Here(Called::Idle(lane));
         }
         let work = SendingWork {
             lane: Snapshot::of(&lane),
-            position,
             rounds: self.rounds.count,
         };
         self.start(
             scope,
-            1 + position.index,
+            1 + index,
             work,
             move ||
-                requires { (self.now.base.now.config.now ≡ L.config)
-                    × (position.index < position.count) × (position.count ≤ 4) }
-            { self.call_sending(position, lane) },
+                requires { self.now.base.now.config.now ≡ L.config }
+            { self.call_sending(lane) },
         )
     }
 
-    // The lanes begin that turn tables, of which the first ones, so many, are at work.
+    // The lanes begin that turn tables.
     fn start_all_sending<'s, E, C: Clock + Send + 's>(
         &'s self,
         scope: &Scope<'s, E>,
-        count: usize,
-        lanes: SendingLanes<C>,
-    ) -> SendingCalls<C>
-        requires config { self.now.base.now.config.now ≡ L.config }
-        requires count { (1 ≤ count) × (count ≤ 4) }
-        ensures { AreTurning C.Clock count self.now.rounds.count lanes result }
+        lanes: SendingLanes<C, L>,
+    ) -> SendingCalls<C, L>
+        requires { self.now.base.now.config.now ≡ L.config }
+        ensures { AreTurning C.Clock self.now.rounds.count lanes result }
     {
         let SendingLanes {
             first,
@@ -252,20 +266,20 @@ where
             fourth,
         } = lanes;
         SendingCalls {
-            first: self.start_sending(scope, Position { index: 0, count }, first),
-            second: self.start_sending(scope, Position { index: 1, count }, second),
-            third: self.start_sending(scope, Position { index: 2, count }, third),
-            fourth: self.start_sending(scope, Position { index: 3, count }, fourth),
+            first: self.start_sending(scope, 0, first),
+            second: self.start_sending(scope, 1, second),
+            third: self.start_sending(scope, 2, third),
+            fourth: self.start_sending(scope, 3, fourth),
         }
     }
 
     // The lanes that turned tables, once all have served.
     fn served_sending<C: Clock>(
         &self,
-        calls: SendingCalls<C>,
-    ) -> Result<SendingLanes<C>, OutOfMemory>
-        ensures { (count rounds : ℕ) (old : SendingLanes C) → AreTurning C.Clock count rounds old
-            calls → IfOk result (HaveTurned C.Clock count rounds old) }
+        calls: SendingCalls<C, L>,
+    ) -> Result<SendingLanes<C, L>, OutOfMemory>
+        ensures { (rounds : ℕ) (old : SendingLanes C L) → AreTurning C.Clock rounds old calls
+            → IfOk result (HaveTurned C.Clock rounds old) }
     {
         let SendingCalls {
             first,
@@ -282,9 +296,12 @@ where
     }
 
     // The lanes that were to turn tables, once all have left.
-    fn left_sending<C: Clock>(&self, calls: SendingCalls<C>) -> Result<SendingLanes<C>, OutOfMemory>
-        ensures { (count rounds : ℕ) (old : SendingLanes C) → AreTurning C.Clock count rounds old
-            calls → IfOk result (λ lanes. lanes ≡ old) }
+    fn left_sending<C: Clock>(
+        &self,
+        calls: SendingCalls<C, L>,
+    ) -> Result<SendingLanes<C, L>, OutOfMemory>
+        ensures { (rounds : ℕ) (old : SendingLanes C L) → AreTurning C.Clock rounds old calls
+            → IfOk result (λ lanes. lanes ≡ old) }
     {
         let SendingCalls {
             first,
@@ -305,15 +322,15 @@ where
     fn open(
         &self,
         settings: &GmSettings,
-        blanks: Blanks,
+        ledgers: Ledgers<L>,
         p0: P,
         p1: P,
         p2: P,
         p3: P,
     ) -> Result<(Seat<G, R>, Vec<Seat<G, R>>), OutOfMemory>
-        requires rates { IsBlankOf L.name L.parts 4 blanks.rates }
-        requires granted { IsBlankOf G.name G.parts L.seats blanks.granted }
-        requires refused { IsBlankOf R.name R.parts L.seats blanks.refused }
+        requires rates { IsBlankOf L.name L.parts 4 ledgers.rates }
+        requires granted { IsBlankOf G.name G.parts L.seats ledgers.granted }
+        requires refused { IsBlankOf R.name R.parts L.seats ledgers.refused }
         requires opening { L.opening ≡ settings.now.capacity }
         requires most { L.most ≡ peak_capacity settings.now }
         requires seats { L.seats ≡ 1 }
@@ -323,7 +340,7 @@ where
         ensures others { IfOk result (λ seats. seats.1.items ≡ []) }
     {
         let ports = TablePorts { p0, p1, p2, p3 };
-        let made = Shared::<P, L, G, R>::new(self.base.alloc, blanks, settings.capacity, 1, ports);
+        let made = Shared::<P, L, G, R>::new(self.base.alloc, ledgers, settings.capacity, 1, ports);
         let Ok((shared, mut seats)) = made else {
             self.refuse();
             return Err(OutOfMemory);
@@ -340,10 +357,11 @@ where
         settings: &GmSettings,
         blanks: Blanks,
         opened: Opened<P, C>,
-    ) -> Result<Done<P, C, G, R>, OutOfMemory>
+    ) -> Result<Done<P, C, L, G, R>, OutOfMemory>
         requires rates { IsBlankOf L.name L.parts 4 blanks.rates }
         requires granted { IsBlankOf G.name G.parts L.seats blanks.granted }
         requires refused { IsBlankOf R.name R.parts L.seats blanks.refused }
+        requires turns { AreTurnBlanks L.turns blanks.turns }
         requires opening { L.opening ≡ settings.now.capacity }
         requires most { L.most ≡ peak_capacity settings.now }
         requires seats { L.seats ≡ 1 }
@@ -357,29 +375,27 @@ where
         ensures { IfOk result
             (HasDone P.Port C.Clock settings.now self.now.base.now.config.now opened) }
     {
-        let event = EventLane {
-            port: opened.p5,
-            clock: opened.c1,
-            failed: 0,
-        };
-        let sending = sending_lanes(opened.c2, opened.c3, opened.c4, opened.c5);
-        let event = self.start_event(scope, event);
-        let sending = self.start_all_sending(scope, sender_count(settings), sending);
+        let (ledgers, turner) = blanks.open();
+        let turners = turner.share_out(sender_count(settings));
+        let sending = sending_lanes(turners, opened.c2, opened.c3, opened.c4, opened.c5);
+        let event = self.start_event(scope, EventLane::new(opened.p5, opened.c1));
+        let sending = self.start_all_sending(scope, sending);
         if self.gate.get().is_some() {
             let event = event.called(self.base.rt).left()?;
             let sending = self.left_sending(sending)?;
+            let (c2, c3, c4, c5) = sending.into_clocks();
             return Ok(Done::Refused(Opened {
                 p5: event.port,
                 c1: event.clock,
-                c2: sending.first.clock,
-                c3: sending.second.clock,
-                c4: sending.third.clock,
-                c5: sending.fourth.clock,
+                c2,
+                c3,
+                c4,
+                c5,
                 ..opened
             }));
         }
         let (seat, seats) = self.open(
-            settings, blanks, opened.p0, opened.p1, opened.p2, opened.p3,
+            settings, ledgers, opened.p0, opened.p1, opened.p2, opened.p3,
         )?;
         let control = ControlLane {
             seat,
@@ -412,7 +428,7 @@ pub(crate) fn call_all<'a, P, C, L, G, R, W>(
     settings: &GmSettings,
     blanks: Blanks,
     opened: Opened<P, C>,
-) -> Result<Done<P, C, G, R>, OutOfMemory>
+) -> Result<Done<P, C, L, G, R>, OutOfMemory>
 where
     P: Port + Send,
     C: Clock + Send,
@@ -423,6 +439,7 @@ where
     requires rates { IsBlankOf L.name L.parts 4 blanks.rates }
     requires granted { IsBlankOf G.name G.parts L.seats blanks.granted }
     requires refused { IsBlankOf R.name R.parts L.seats blanks.refused }
+    requires turns { AreTurnBlanks L.turns blanks.turns }
     requires opening { L.opening ≡ settings.now.capacity }
     requires most { L.most ≡ peak_capacity settings.now }
     requires seats { L.seats ≡ 1 }
@@ -449,10 +466,11 @@ where
     thread::scope(
         thread::scope_env(),
         base.rt,
-        move |scope| -> Result<Done<P, C, G, R>, OutOfMemory>
+        move |scope| -> Result<Done<P, C, L, G, R>, OutOfMemory>
             requires { IsBlankOf L.name L.parts 4 blanks.rates
                 × IsBlankOf G.name G.parts L.seats blanks.granted
                 × IsBlankOf R.name R.parts L.seats blanks.refused
+                × AreTurnBlanks L.turns blanks.turns
                 × (L.opening ≡ settings.now.capacity)
                 × (L.most ≡ peak_capacity settings.now) × (L.seats ≡ 1)
                 × (seen_of P.Port opened.p0 ≡ L.opened 0)

@@ -1,15 +1,16 @@
 //! The lanes of a grandmaster, with what each keeps from round to round.
 
 ghost use Rattle.std.specs.Prelude.{◌≡◌, ◌+◌, ◌-◌, ◌*◌, ◌^◌, ◌≤◌, ◌<◌, min, Ok, IfOk};
-ghost use Rattle.ptu_lanes.specs.Stretches.{ControlLaneDid, EventLaneDid};
-ghost use Rattle.ptu_lanes.specs.Waiting.{PassedBy, TurnedOwn, own_tables};
+ghost use Rattle.ptu_shared.specs.Turning.{after_rounds};
+ghost use Rattle.ptu_lanes.specs.Stretches.{ControlLaneDid, EventLaneDid, SendingLaneDid};
+ghost use Rattle.ptu_lanes.specs.Waiting.{PassedBy, rights};
 
 use crate::delays::delay_round;
 use crate::service::Service;
 use crate::signaling::control_round;
 use crate::turns::turn_round;
 use ptu_outside::{Clock, Meeting, Port};
-use ptu_shared::{Rates, Seat};
+use ptu_shared::{Rates, Seat, Turner};
 use ptu_units::{Moment, OutOfMemory};
 use std::sync::Wait;
 use std::sync::ledger::Ledger;
@@ -53,19 +54,50 @@ pub(crate) struct EventLane<P: Port, C: Clock> {
     pub failed: u64,
 }
 
-/// A lane that turns tables. What their ports are sent is counted beside them.
+impl<P: Port, C: Clock> EventLane<P, C> {
+    /// The lane at this port and clock, before its first round.
+    pub(crate) fn new(port: P, clock: C) -> EventLane<P, C>
+        ensures { result ≡ record { port = port; clock = clock; failed = 0 } }
+    {
+        EventLane {
+            port,
+            clock,
+            failed: 0,
+        }
+    }
+}
+
+/// A lane that turns tables, with the right to do so. What their ports are sent is counted beside
+/// them.
 #[derive(Drop)]
-pub(crate) struct SendingLane<C: Clock> {
+pub(crate) struct SendingLane<C: Clock, L: Rates> {
     pub clock: C,
+    pub turner: Turner<L>,
 }
 
 /// The lanes that turn tables, of which the first ones are at work.
 #[derive(Drop)]
-pub(crate) struct SendingLanes<C: Clock> {
-    pub first: SendingLane<C>,
-    pub second: SendingLane<C>,
-    pub third: SendingLane<C>,
-    pub fourth: SendingLane<C>,
+pub(crate) struct SendingLanes<C: Clock, L: Rates> {
+    pub first: SendingLane<C, L>,
+    pub second: SendingLane<C, L>,
+    pub third: SendingLane<C, L>,
+    pub fourth: SendingLane<C, L>,
+}
+
+impl<C: Clock, L: Rates> SendingLanes<C, L> {
+    /// Their clocks.
+    pub(crate) fn into_clocks(self) -> (C, C, C, C)
+        ensures { (result.0 ≡ self.first.clock) × (result.1 ≡ self.second.clock)
+            × (result.2 ≡ self.third.clock) × (result.3 ≡ self.fourth.clock) }
+    {
+        let SendingLanes {
+            first,
+            second,
+            third,
+            fourth,
+        } = self;
+        (first.clock, second.clock, third.clock, fourth.clock)
+    }
 }
 
 /// All rounds, with a meeting after each, and one more behind the change of capacity.
@@ -109,17 +141,10 @@ impl Rounds {
 
 /// All lanes of a grandmaster.
 #[derive(Drop)]
-pub(crate) struct Lanes<P: Port, C: Clock, G: Ledger, R: Ledger> {
+pub(crate) struct Lanes<P: Port, C: Clock, L: Rates, G: Ledger, R: Ledger> {
     pub control: ControlLane<P, C, G, R>,
     pub event: EventLane<P, C>,
-    pub sending: SendingLanes<C>,
-}
-
-/// The place of a lane among those at work that turn tables.
-#[derive(Clone, Copy)]
-pub(crate) struct Position {
-    pub index: usize,
-    pub count: usize,
+    pub sending: SendingLanes<C, L>,
 }
 
 impl<P: Port + Send, L: Rates, G: Ledger, R: Ledger, W: Wait> Service<'_, P, L, G, R, W> {
@@ -166,14 +191,14 @@ impl<P: Port + Send, L: Rates, G: Ledger, R: Ledger, W: Wait> Service<'_, P, L, 
         Ok(lane)
     }
 
-    // A round of the lane at this position that turns tables.
-    fn turn_own<C: Clock>(&self, position: Position, mut lane: SendingLane<C>) -> SendingLane<C>
-        requires config { self.now.base.now.config.now ≡ L.config }
-        requires index { (position.index < position.count) × (position.count ≤ 4) }
-        ensures { PassedBy (own_tables position.count position.index)
-            (C.moments lane.clock) (C.moments result.clock) }
+    // A round of a lane that turns tables.
+    fn turn_own<C: Clock>(&self, mut lane: SendingLane<C, L>) -> SendingLane<C, L>
+        requires { self.now.base.now.config.now ≡ L.config }
+        ensures moments { PassedBy (rights lane.turner) (C.moments lane.clock)
+            (C.moments result.clock) }
+        ensures turns { result.turner ≡ after_rounds 1 lane.turner }
     {
-        turn_round(self, &mut lane.clock, position.index, position.count);
+        turn_round(self, &mut lane.turner, &mut lane.clock);
         lane
     }
 
@@ -220,25 +245,22 @@ impl<P: Port + Send, L: Rates, G: Ledger, R: Ledger, W: Wait> Service<'_, P, L, 
         Ok(lane)
     }
 
-    /// All rounds of the lane at this position that turns tables, with a meeting after each.
+    /// All rounds of a lane that turns tables, with a meeting after each.
     ///
     /// # Errors
     /// `OutOfMemory`, with the lane dropped: after the round in which another lane gave up.
     pub(crate) fn take_part_turning<C: Clock>(
         &self,
         rounds: &Rounds,
-        position: Position,
-        lane: SendingLane<C>,
-    ) -> Result<SendingLane<C>, OutOfMemory>
-        requires config { self.now.base.now.config.now ≡ L.config }
-        requires index { (position.index < position.count) × (position.count ≤ 4) }
-        ensures { IfOk result (λ new.
-            TurnedOwn C.Clock position.count position.index rounds.now.count lane.clock new.clock) }
+        lane: SendingLane<C, L>,
+    ) -> Result<SendingLane<C, L>, OutOfMemory>
+        requires { self.now.base.now.config.now ≡ L.config }
+        ensures { IfOk result (SendingLaneDid C.Clock rounds.now.count lane) }
     {
         let mut lane = lane;
         for i in 0..rounds.count {
             rounds.begin(self.base.rt, i)?;
-            lane = rounds.met(self.base.rt, Ok(self.turn_own(position, lane)))?;
+            lane = rounds.met(self.base.rt, Ok(self.turn_own(lane)))?;
         }
         Ok(lane)
     }

@@ -4,11 +4,12 @@ ghost use Rattle.std.specs.Prelude.{◌≡◌, ◌+◌, ◌-◌, ◌^◌, ◌≤
 ghost use Rattle.ptu_shared.specs.{Blanks.{IsBlankOf}, Opening.{seen_of}};
 ghost use Rattle.ptu_config.specs.Limits.{IsGmInRange};
 ghost use Rattle.ptu_lanes.specs.Changing.{peak_capacity};
-ghost use Rattle.ptu_lanes.specs.{Ended.{HasEnded}, Served.{TablesAreBack, TablesSent}};
+ghost use Rattle.ptu_shared.specs.Turning.{AreTurnBlanks};
+ghost use Rattle.ptu_lanes.specs.{Crew.{turns_by}, Ended.{HasEnded}, Served.{TablesAreBack, TablesSent}};
 
 use crate::changing::capacity_at_end;
 use crate::crew::{Done, call_all};
-use crate::lanes::Lanes;
+use crate::lanes::{Lanes, SendingLanes};
 use crate::service::Base;
 use ptu_admit::Closed;
 use ptu_config::GmSettings;
@@ -84,7 +85,7 @@ fn failed_by(tallies: &Tallies, control: u64, event: u64) -> u128
 fn close<P: Port + Send, C: Clock, L: Rates, G: Ledger, R: Ledger>(
     shared: Shared<P, L, G, R>,
     mut seats: Vec<Seat<G, R>>,
-    lanes: Lanes<P, C, G, R>,
+    lanes: Lanes<P, C, L, G, R>,
     capacity: Capacity,
 ) -> Result<(Opened<P, C>, Totals), OutOfMemory>
     requires ledger { (L.parts ≡ 4) × (L.seats ≡ 1) × (G.parts ≡ 1) × (R.parts ≡ 1) }
@@ -100,15 +101,24 @@ fn close<P: Port + Send, C: Clock, L: Rates, G: Ledger, R: Ledger>(
         × (r.1.refused ≡ lanes.control.seat.refused)) }
     ensures held { IfOk result (λ r. r.1.held ≤ capacity) }
     ensures sent { IfOk result (λ r. TablesSent P.Port L.config L.opened r.0
-        lanes.control.tally.sent r.1.sent) }
+        lanes.control.tally.sent r.1.sent (turns_by lanes.sending)) }
 {
     let Lanes {
         control,
         event,
         sending,
     } = lanes;
+    let SendingLanes {
+        first,
+        second,
+        third,
+        fourth,
+    } = sending;
     seats.push(control.seat)?;
-    let Ok((closed, tallies)) = shared.close_with_tallies(seats) else {
+    let turner = first
+        .turner
+        .and(second.turner.and(third.turner.and(fourth.turner)));
+    let Ok((closed, tallies)) = shared.close_with_tallies(seats, turner) else {
         unreachable!()
     };
     if tallies.capacity != capacity.get() {
@@ -131,10 +141,10 @@ fn close<P: Port + Send, C: Clock, L: Rates, G: Ledger, R: Ledger>(
         p5: event.port,
         c0: control.clock,
         c1: event.clock,
-        c2: sending.first.clock,
-        c3: sending.second.clock,
-        c4: sending.third.clock,
-        c5: sending.fourth.clock,
+        c2: first.clock,
+        c3: second.clock,
+        c4: third.clock,
+        c5: fourth.clock,
     };
     Ok((back, totals))
 }
@@ -157,6 +167,7 @@ where
     requires rates { IsBlankOf L.name L.parts 4 blanks.rates }
     requires granted { IsBlankOf G.name G.parts L.seats blanks.granted }
     requires refused { IsBlankOf R.name R.parts L.seats blanks.refused }
+    requires turns { AreTurnBlanks L.turns blanks.turns }
     requires opening { L.opening ≡ settings.now.capacity }
     requires most { L.most ≡ peak_capacity settings.now }
     requires seats { L.seats ≡ 1 }

@@ -1,64 +1,48 @@
 //! Rounds of a lane that turns tables.
 
-ghost use Rattle.std.specs.Prelude.{◌≡◌, ◌≤◌, ◌<◌, ◌%◌, ◌==◌, if◌then◌else◌};
-ghost use Rattle.ptu_lanes.specs.Waiting.{PassedBy, own_tables};
+ghost use Rattle.std.specs.Prelude.{◌≡◌, ◌<◌, if◌then◌else◌, is_some};
+ghost use Rattle.ptu_shared.specs.Turning.{after_rounds, turns_of, with_turn};
+ghost use Rattle.ptu_lanes.specs.Waiting.{PassedBy, rights};
 
 use crate::service::Service;
-use ptu_outside::{Clock, Port, Sends};
-use ptu_shared::Rates;
+use ptu_outside::{Clock, Port};
+use ptu_shared::{Rates, Turner};
 use std::sync::Wait;
 use std::sync::ledger::Ledger;
 
-const TABLES: usize = 4;
-
-// Whether the lane turns the table.
-fn is_own(table: usize, lane: usize, lanes: usize) -> bool
-    requires { lane < lanes }
-    ensures { result ≡ (table % lanes == lane) }
-{
-    table % lanes == lane
-}
-
-// A turn of the table at a new moment of the clock, where the lane turns it.
-fn turn_if_own<P: Port + Send, C: Clock, L: Rates, G: Ledger, R: Ledger, W: Wait>(
+// A turn of the table at a new moment of the clock, where it may be turned.
+fn turn_one<P: Port + Send, C: Clock, L: Rates, G: Ledger, R: Ledger, W: Wait>(
     service: &Service<'_, P, L, G, R, W>,
+    turner: &mut Turner<L>,
     clock: &mut C,
     table: usize,
-    own: bool,
-) -> Sends
+)
     requires config { service.now.base.now.config.now ≡ L.config }
     requires table { table < 4 }
-    ensures { PassedBy (if own then 1 else 0) (C.moments clock.old) (C.moments clock.new) }
+    ensures moments { PassedBy (if is_some (turns_of table turner.old) then 1 else 0)
+        (C.moments clock.old) (C.moments clock.new) }
+    ensures turns { turner.new ≡ with_turn table turner.old }
 {
-    if !own {
-        return Sends::none();
+    if !turner.may_turn(table) {
+        return;
     }
     let Service { base, shared } = service;
-    let turned = shared.turn(base.rt, base.config, table, clock.now());
-    Sends {
-        sent: turned.sent,
-        failed: turned.failed,
-    }
+    let _ = shared.turn(base.rt, base.config, turner, table, clock.now());
 }
 
-/// Turns the tables `j` with `j` mod `lanes` = `lane`, in order of index, each at a new moment of
-/// the clock. What would not fit in 64 bits is not counted.
+/// Turns the tables that the lane may turn, in order of index, each at a new moment of the clock.
+/// What is sent, and what fails to be, is counted beside the tables.
 pub fn turn_round<P: Port + Send, C: Clock, L: Rates, G: Ledger, R: Ledger, W: Wait>(
     service: &Service<'_, P, L, G, R, W>,
+    turner: &mut Turner<L>,
     clock: &mut C,
-    lane: usize,
-    lanes: usize,
-) -> Sends
+)
     requires config { service.now.base.now.config.now ≡ L.config }
-    requires lanes { (lane < lanes) × (lanes ≤ 4) }
-    ensures { PassedBy (own_tables lanes lane) (C.moments clock.old) (C.moments clock.new) }
+    ensures moments { PassedBy (rights turner.old) (C.moments clock.old) (C.moments clock.new) }
+    ensures turns { turner.new ≡ after_rounds 1 turner.old }
 {
-    let mut sends = Sends::none();
-    for table in 0..TABLES {
-        let own = is_own(table, lane, lanes);
-        let one = turn_if_own(service, clock, table, own);
-        sends.sent = sends.sent.saturating_add(one.sent);
-        sends.failed = sends.failed.saturating_add(one.failed);
-    }
-    sends
+    turn_one(service, turner, clock, 0);
+    turn_one(service, turner, clock, 1);
+    turn_one(service, turner, clock, 2);
+    turn_one(service, turner, clock, 3);
 }

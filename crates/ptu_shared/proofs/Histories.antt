@@ -27,6 +27,8 @@ use Rattle.ptu_shard.specs.{Answered.{responses}, Messages.{departure_of, respon
 use Rattle.ptu_admit.specs.Alone.{AreDecisionsFrom, GoesOnAlone, StandsAlone}
 use Rattle.ptu_outside.specs.Handed.{SentPart}
 use Rattle.ptu_shared.specs.{Histories.{AllMayFollow, AreMessages, HasHistory, IsMessage}, Opening.{HaveFailed, Seen, seen_of}}
+use Rattle.ptu_shared.specs.Turning.{IsDecision, IsMadeOf, IsPart, TablePart, turns_in}
+use Rattle.ptu_shared.specs.Turning.{TablePart.Decided as DecidedPart, TablePart.DelayReq as DelayReqPart, TablePart.Turn as TurnPart}
 use Rattle.ptu_shared.proofs.Failing.{failed-append, failed_hands, failed_none}
 
 -- ---- one list of records behind another
@@ -35,6 +37,37 @@ follow-append : (j : ℕ) (before xs ys : List Record) → AllMayFollow j before
 follow-append j before [] ys a b = subst (λ h. AllMayFollow j h ys) (append-nil before) b
 follow-append j before (r ∷ xs) ys a b =
     (a.0, follow-append j (before ++ r ∷ []) xs ys a.1 (subst (λ h. AllMayFollow j h ys) (sym (append_assoc before (r ∷ []) xs)) b))
+
+-- records that one part more has left
+made-append : (j : ℕ) (before xs ys : List Record) (parts : List TablePart) (part : TablePart) → IsMadeOf j before xs parts → IsPart j (before ++ xs) ys part →
+    IsMadeOf j before (xs ++ ys) (parts ++ part ∷ [])
+made-append j before xs ys [] part none is =
+    let own : IsPart j before ys part = subst (λ h. IsPart j h ys part) (ap (λ l. before ++ l) none ∙ append-nil before) is in
+    (ys, [], ap (λ l. l ++ ys) none ∙ sym (append-nil ys), own, refl)
+made-append j before xs ys (first ∷ parts) part (records, rest, all, own, made) is =
+    let behind : before ++ xs ≡ (before ++ records) ++ rest = ap (λ l. before ++ l) all ∙ sym (append_assoc before records rest) in (
+      records,
+      rest ++ ys,
+      ap (λ l. l ++ ys) all ∙ append_assoc records rest ys,
+      own,
+      made-append j (before ++ records) rest ys parts part made (subst (λ h. IsPart j h ys part) behind is),
+    )
+
+turns-append : (parts : List TablePart) (part : TablePart) → turns_in (parts ++ part ∷ []) ≡ turns_in parts + turns_in (part ∷ [])
+turns-append [] part = omega arith
+turns-append (DecidedPart ∷ parts) part = turns-append parts part
+turns-append (DelayReqPart x c ∷ parts) part = turns-append parts part
+turns-append (TurnPart x ∷ parts) part = let later : turns_in (parts ++ part ∷ []) ≡ turns_in parts + turns_in (part ∷ []) = turns-append parts part in omega (arith, later)
+
+are_decisions : (j from : ℕ) (records : List Record) → AreDecisionsFrom j from records → AllByRecursion IsDecision records
+are_decisions j from [] are = tt
+are_decisions j from (Granted n c k l u ∷ rs) are = (tt, are_decisions j from rs are.1)
+are_decisions j from (Short n c ∷ rs) are = (tt, are_decisions j from rs are.1)
+are_decisions j from (Ended n c k ∷ rs) are = (tt, are_decisions j from rs are.1)
+are_decisions j from (Capacity n capacity ∷ rs) are = (tt, are_decisions j from rs are.1)
+are_decisions j from (Shed n c k ∷ rs) are = (tt, are_decisions j from rs are.1)
+are_decisions j from (Looked n i ∷ rs) are = absurd are.0
+are_decisions j from (Sent n c k ∷ rs) are = absurd are.0
 
 module _ (config : GmConfig) where
   shift : (before xs ys : List Record) (r : Record) (es : List Departure) → AreMessages config (before ++ r ∷ xs) ys es → AreMessages config ((before ++ r ∷ []) ++ xs) ys es
@@ -190,17 +223,19 @@ part_both opened old new x y z ds es sent more first second p q = record {
 
 -- ---- the table with its history
 
-module _ {P : Type 0} (ports : Ports P) (config : GmConfig) (j : ℕ) (opened : Seen) (old new : Kept P) (count : ℕ) (has : HasHistory ports config j opened old count) where
+module _ {P : Type 0} (ports : Ports P) (config : GmConfig) (j : ℕ) (opened : Seen) (old new : Kept P) (count turned : ℕ) (has : HasHistory ports config j opened old count turned) where
   -- it goes on with records that may follow, whose messages were handed to the port
-  goes_on : (more : List Record) (messages : List Departure) (sent failed : ℕ) → AllMayFollow j has.lawful.history more → AreMessages config has.lawful.history more messages →
-      HandsOver ports old.port new.port messages sent failed → StandsAlone j new (has.lawful.history ++ more) →
-      HasHistory ports config j opened new (min (count + sent) (2 ^ 128 - 1))
-  goes_on more messages sent failed follow are hands stands =
+  goes_on : (more : List Record) (part : TablePart) (messages : List Departure) (sent failed : ℕ) → AllMayFollow j has.lawful.history more → IsPart j has.lawful.history more part →
+      AreMessages config has.lawful.history more messages → HandsOver ports old.port new.port messages sent failed → StandsAlone j new (has.lawful.history ++ more) →
+      HasHistory ports config j opened new (min (count + sent) (2 ^ 128 - 1)) (turned + turns_in (part ∷ []))
+  goes_on more part messages sent failed follow is_part are hands stands =
       let so_far = has.lawful in
       record {
         lawful = record {
           history = so_far.history ++ more;
           follows = follow-append j [] so_far.history more so_far.follows follow;
+          parts = so_far.parts ++ part ∷ [];
+          made = made-append j [] so_far.history more so_far.parts part so_far.made is_part;
           messages = so_far.messages ++ messages;
           are = messages-append config [] so_far.history more so_far.messages messages so_far.are are;
           sent = so_far.sent + sent;
@@ -221,17 +256,20 @@ module _ {P : Type 0} (ports : Ports P) (config : GmConfig) (j : ℕ) (opened : 
               (failed_hands ports old.port new.port messages sent failed hands);
         };
         counted = let is : count ≡ min so_far.sent (2 ^ 128 - 1) = has.counted in omega (arith, is);
+        turns = turns-append so_far.parts part ∙ ap (λ n. n + turns_in (part ∷ [])) has.turns;
         stands = stands;
       }
 
   pub same_table : new.port ≡ old.port → new.moment ≡ old.moment → ((book i : ℕ) (history : List Record) → StandsBeside book i old history → StandsBeside book i new history) →
-      HasHistory ports config j opened new count
+      HasHistory ports config j opened new count turned
   same_table port moment stands =
       let so_far = has.lawful in
       record {
         lawful = record {
           history = so_far.history;
           follows = so_far.follows;
+          parts = so_far.parts;
+          made = so_far.made;
           messages = so_far.messages;
           are = so_far.are;
           sent = so_far.sent;
@@ -244,13 +282,14 @@ module _ {P : Type 0} (ports : Ports P) (config : GmConfig) (j : ℕ) (opened : 
           failures = subst (λ p. HaveFailed ports.counts_once so_far.failed opened.faults (ports.faults p)) (sym port) so_far.failures;
         };
         counted = has.counted;
+        turns = has.turns;
         stands = record {
           stands = stands (book_moment so_far.history) j so_far.history has.stands.stands;
           reached = let le : book_moment so_far.history ≤ old.moment = has.stands.reached in omega (arith, le, moment);
         };
       }
 
-  pub decided : GoesOnAlone j old new → new.port ≡ old.port → HasHistory ports config j opened new count
+  pub decided : GoesOnAlone j old new → new.port ≡ old.port → HasHistory ports config j opened new count turned
   decided alone port =
       let history : List Record = has.lawful.history in
       let more = alone history has.stands in
@@ -260,8 +299,9 @@ module _ {P : Type 0} (ports : Ports P) (config : GmConfig) (j : ℕ) (opened : 
       let follow = decisions_follow config j old.moment history more.0 past more.1 in
       let is : count ≡ min has.lawful.sent (2 ^ 128 - 1) = has.counted in
       let same : min (count + 0) (2 ^ 128 - 1) ≡ count = omega (arith, is) in
-      subst (λ n. HasHistory ports config j opened new n) same
-      (goes_on more.0 [] 0 0 follow.0 follow.1 (subst (λ p. HandsOver ports old.port p [] 0 0) (sym port) (hands_none ports old.port)) more.2)
+      subst (λ n. HasHistory ports config j opened new n turned) same
+      (subst (λ n. HasHistory ports config j opened new (min (count + 0) (2 ^ 128 - 1)) n) (omega arith)
+      (goes_on more.0 DecidedPart [] 0 0 follow.0 (are_decisions j old.moment more.0 more.1) follow.1 (subst (λ p. HandsOver ports old.port p [] 0 0) (sym port) (hands_none ports old.port)) more.2))
 
 nothing_decided : (n : ℕ) → book_moment [] ≤ n
 unfolding book_moment
@@ -269,13 +309,15 @@ nothing_decided n = omega arith
 
 -- a table at which nothing was done
 pub at_first : {P : Type 0} (ports : Ports P) (config : GmConfig) (j : ℕ) (opened : Seen) (table : Kept P) (count : ℕ) →
-    StandsFor j table [] → seen_of ports table.port ≡ opened → count ≡ 0 → HasHistory ports config j opened table count
+    StandsFor j table [] → seen_of ports table.port ≡ opened → count ≡ 0 → HasHistory ports config j opened table count 0
 at_first ports config j opened table count stands seen none =
-    subst (λ o. HasHistory ports config j o table count) seen
+    subst (λ o. HasHistory ports config j o table count 0) seen
     (record {
       lawful = record {
         history = [];
         follows = tt;
+        parts = [];
+        made = refl;
         messages = [];
         are = refl;
         sent = 0;
@@ -286,10 +328,11 @@ at_first ports config j opened table count stands seen none =
         failures = failed_none ports.counts_once (ports.faults table.port);
       };
       counted = omega (arith, none);
+      turns = refl;
       stands = record { stands = stands; reached = nothing_decided table.moment };
     })
 
-module _ {P : Type 0} (ports : Ports P) (config : GmConfig) (j : ℕ) (opened : Seen) (old new : Kept P) (count : ℕ) (has : HasHistory ports config j opened old count)
+module _ {P : Type 0} (ports : Ports P) (config : GmConfig) (j : ℕ) (opened : Seen) (old new : Kept P) (count times : ℕ) (has : HasHistory ports config j opened old count times)
     (x sent failed : ℕ) (now : new.moment ≡ x) (le : old.moment ≤ x) where
   at_later : (more : List Record) → greatest_by book_part more ≡ 0 → StandsFor j new (has.lawful.history ++ more) → StandsAlone j new (has.lawful.history ++ more)
   at_later more none stands = record {
@@ -303,20 +346,20 @@ module _ {P : Type 0} (ports : Ports P) (config : GmConfig) (j : ℕ) (opened : 
   pub turned : HandsOver ports old.port new.port (map (departure_of config x) (due_messages x old.rows)) sent failed →
       ((i : ℕ) (history : List Record) → StandsFor i old history → due_messages x old.rows ≡ map (message_of history) (due_grants history x i)) →
       ((start : Config) (i : ℕ) (history : List Record) → StandsFor i old history → StandsFor i new (history ++ (step start history x (Turn i)).records)) →
-      HasHistory ports config j opened new (min (count + sent) (2 ^ 128 - 1))
+      HasHistory ports config j opened new (min (count + sent) (2 ^ 128 - 1)) (times + 1)
   turned hands messages stands =
       let history : List Record = has.lawful.history in
       let gs : List Grant = due_grants history x j in
       let more : List Record = Looked x j ∷ map (sent_record x) gs in
       let follow = turn_follows config history x j in
-      goes_on ports config j opened old new count has more (map (departure_of config x) (map (message_of history) gs)) sent failed follow.0 follow.1
+      goes_on ports config j opened old new count times has more (TurnPart x) (map (departure_of config x) (map (message_of history) gs)) sent failed follow.0 refl follow.1
       (subst (λ ms. HandsOver ports old.port new.port (map (departure_of config x) ms) sent failed) (messages j history has.stands.stands) hands)
       (at_later more (ap (λ n. max 0 n) (greatest-sent x gs)) (stands (record { max_duration = 0; capacity = 0 }) j history has.stands.stands))
 
   pub answered : (c : Client) (request : Header) (a : Answer) → table_of c ≡ j → HandsOver ports old.port new.port (responses a (response_of config x c request)) sent failed →
       ((history : List Record) → StandsFor (table_of c) old history → a ≡ delay_answer history x c) →
       ((start : Config) (history : List Record) → StandsFor (table_of c) old history → StandsFor (table_of c) new (history ++ (step start history x (DelayReq c)).records)) →
-      HasHistory ports config j opened new (min (count + sent) (2 ^ 128 - 1))
+      HasHistory ports config j opened new (min (count + sent) (2 ^ 128 - 1)) times
   answered c request a own hands met stands =
       let history : List Record = has.lawful.history in
       let before : StandsFor (table_of c) old history = subst (λ i. StandsFor i old history) (sym own) has.stands.stands in
@@ -324,11 +367,12 @@ module _ {P : Type 0} (ports : Ports P) (config : GmConfig) (j : ℕ) (opened : 
       let answer : Answer = delay_answer history x c in
       let more : List Record = Looked x (table_of c) ∷ answer_records x c answer in
       let follow = answer_follows config history x c request answer (lawful_answer config history x c request answer refl) in
-      goes_on ports config j opened old new count has more (responses answer (response_of config x c request)) sent failed
-      (subst (λ i. AllMayFollow i history more) own follow.0) follow.1
+      subst (λ n. HasHistory ports config j opened new (min (count + sent) (2 ^ 128 - 1)) n) (omega arith)
+      (goes_on ports config j opened old new count times has more (DelayReqPart x c) (responses answer (response_of config x c request)) sent failed
+      (subst (λ i. AllMayFollow i history more) own follow.0) (own, ap (λ i. Looked x i ∷ answer_records x c answer) own) follow.1
       (subst (λ b. HandsOver ports old.port new.port (responses b (response_of config x c request)) sent failed) is hands)
       (at_later more (none answer)
-      (subst (λ i. StandsFor i new (history ++ more)) own (stands (record { max_duration = 0; capacity = 0 }) history before)))
+      (subst (λ i. StandsFor i new (history ++ more)) own (stands (record { max_duration = 0; capacity = 0 }) history before))))
     where
       none : (b : Answer) → greatest_by book_part (Looked x (table_of c) ∷ answer_records x c b) ≡ 0
       none Answered = refl

@@ -1,6 +1,6 @@
 -- The history of one table, which stands behind a lock, and what its port was sent of it (IEEE 1588-2019 clause 16.1.4; the rule
 -- is the project's own choice).
-use Rattle.std.specs.Prelude.{◌≡◌, ℕ, ◌+◌, ◌-◌, ◌^◌, ◌≤◌, min, false, List, [], ◌∷◌, ◌++◌, length, IsTrue}
+use Rattle.std.specs.Prelude.{◌≡◌, ℕ, ◌+◌, ◌-◌, ◌^◌, ◌≤◌, min, false, List, [], ◌∷◌, ◌++◌, length, IfSome, IsTrue, Option}
 use Rattle.std.specs.List.{AllByRecursion}
 use Rattle.ptu_units.specs.declared.kind.{Kind.{Kind}, Kind.TheVariants.{Announce, Sync, DelayResp}}
 use Rattle.ptu_messages.specs.declared.header.Header.{Header}
@@ -14,7 +14,7 @@ use Rattle.ptu_profile.specs.declared.grandmaster.GmConfig.{GmConfig}
 use Rattle.ptu_shard.specs.{Messages.{departure_of, response_of}, Table.{Kept}}
 use Rattle.ptu_admit.specs.Alone.{StandsAlone}
 use Rattle.ptu_outside.specs.Handed.{SentPart}
-use Rattle.ptu_shared.specs.Opening.{HaveFailed, Seen, seen_of}
+use Rattle.ptu_shared.specs.{Opening.{HaveFailed, Seen, seen_of}, Turning.{IsMadeOf, TablePart, turns_in}}
 
 -- what a record of the table has of those before it: a decision is on a client of the table, and not before a message of the kind to
 -- them; a message is to a client of the table, and lawful: inside a live grant of the kind, and in its own period
@@ -47,12 +47,15 @@ AreMessages config before (Sent x c k ∷ later) sent =
     × AreMessages config (before ++ Sent x c k ∷ []) later rest
 AreMessages config before (r ∷ later) sent = AreMessages config (before ++ r ∷ []) later sent
 
--- There is a history of the table, of whose messages the port was sent so many, in order: this was seen of it before, and this after.
+-- There is a history of the table, made of decisions, answers to Delay_Reqs and turns, at each of which the message of each grant that
+-- is due is handed to the port. Of its messages the port was sent so many, in order: this was seen of it before, and this after.
 -- Each other message failed to be sent, which is a fault, and there are no other faults: all were sent where its count did not rise.
 -- Then it goes on to tell them, unless one of them was such that it may cease to.
 pub record SendsLawfully {P : Type 0} (ports : Ports P) (config : GmConfig) (j : ℕ) (before after : Seen) : Type 0 where
   pub history : List Record
   pub follows : AllMayFollow j [] history
+  pub parts : List TablePart
+  pub made : IsMadeOf j [] history parts
   pub messages : List Departure
   pub are : AreMessages config [] history messages
   pub sent : ℕ
@@ -63,13 +66,15 @@ pub record SendsLawfully {P : Type 0} (ports : Ports P) (config : GmConfig) (j :
   pub failures : HaveFailed ports.counts_once failed before.faults after.faults
 
 -- so the port was sent since it was opened, of which this was seen then; the count is the number of messages that were sent, and one
--- that would be above 2^128 - 1 stands there
-abbrev pub SendsCounted : {P : Type 0} → Ports P → GmConfig → ℕ → Seen → P → ℕ → Type 0
-SendsCounted ports config j opened port count =
+-- that would be above 2^128 - 1 stands there; and the table was turned so often, where that is known
+abbrev pub SendsCounted : {P : Type 0} → Ports P → GmConfig → ℕ → Seen → P → ℕ → Option ℕ → Type 0
+SendsCounted ports config j opened port count turns =
     (lawful : SendsLawfully ports config j opened (seen_of ports port)) × (count ≡ min lawful.sent (2 ^ 128 - 1))
+    × IfSome turns (λ n. turns_in lawful.parts ≡ n)
 
--- the table stands for such a history, and this is the count of its port
-pub record HasHistory {P : Type 0} (ports : Ports P) (config : GmConfig) (j : ℕ) (opened : Seen) (table : Kept P) (count : ℕ) : Type 0 where
+-- the table stands for such a history, this is the count of its port, and so often it was turned
+pub record HasHistory {P : Type 0} (ports : Ports P) (config : GmConfig) (j : ℕ) (opened : Seen) (table : Kept P) (count turned : ℕ) : Type 0 where
   pub lawful : SendsLawfully ports config j opened (seen_of ports table.port)
   pub counted : count ≡ min lawful.sent (2 ^ 128 - 1)
+  pub turns : turns_in lawful.parts ≡ turned
   pub stands : StandsAlone j table lawful.history

@@ -4,3 +4,4 @@ pub mod Delays
 pub mod Opening
 pub mod Blanks
 pub mod Histories
+pub mod Turning

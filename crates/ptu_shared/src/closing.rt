@@ -14,6 +14,7 @@ use crate::seat::{FULL, Seat};
 use crate::shared::Shared;
 use crate::table::Table;
 use crate::tally::Tallies;
+use crate::turning::Turner;
 use ptu_admit::Closed;
 use ptu_outside::Port;
 use std::sync::Mutex;
@@ -204,14 +205,15 @@ impl<P: Port + Send, L: Rates, G: Ledger, R: Ledger> Shared<P, L, G, R> {
             (record { granted = fault.seats_granted; refused = fault.seats_refused }) seats.items) }
         ensures all { vec_len seats ≡ L.seats → IsOk result }
     {
-        match self.close_with_tallies(seats) {
+        match self.close_with_tallies(seats, Turner::none()) {
             Ok((closed, _)) => Ok(closed),
             Err(fault) => Err(fault),
         }
     }
 
     /// Closes the tables as `close` does, and tells what their ports were sent, how many of their
-    /// sends failed, and the capacity in force.
+    /// sends failed, and the capacity in force. The tables were turned as often as is known of those
+    /// that this one may turn.
     ///
     /// # Errors
     /// A `CloseFault` exactly where the seats' sums differ from the book's two counts. All seats
@@ -219,6 +221,7 @@ impl<P: Port + Send, L: Rates, G: Ledger, R: Ledger> Shared<P, L, G, R> {
     pub fn close_with_tallies(
         self,
         mut seats: Vec<Seat<G, R>>,
+        turner: Turner<L>,
     ) -> Result<(Closed<P>, Tallies), CloseFault<P, L, G, R>>
         requires { (L.parts ≡ 4) × (G.parts ≡ L.seats) × (R.parts ≡ L.seats) }
         ensures verdicts { IfOk result (λ r. (r.0.granted ≡ granted_in seats.items)
@@ -236,12 +239,12 @@ impl<P: Port + Send, L: Rates, G: Ledger, R: Ledger> Shared<P, L, G, R> {
             × HaveFailed P.counts_once r.1.p2.failed (L.opened 2).faults (P.faults r.0.p2)
             × HaveFailed P.counts_once r.1.p3.failed (L.opened 3).faults (P.faults r.0.p3)) }
         // What the port of each table was sent are, in order, messages of a history of the table,
-        // and so many.
+        // and so many; and so often it was turned.
         ensures lawful { IfOk result (λ r.
-            SendsCounted P.Port L.config 0 (L.opened 0) r.0.p0 r.1.p0.sent
-            × SendsCounted P.Port L.config 1 (L.opened 1) r.0.p1 r.1.p1.sent
-            × SendsCounted P.Port L.config 2 (L.opened 2) r.0.p2 r.1.p2.sent
-            × SendsCounted P.Port L.config 3 (L.opened 3) r.0.p3 r.1.p3.sent) }
+            SendsCounted P.Port L.config 0 (L.opened 0) r.0.p0 r.1.p0.sent turner.t0
+            × SendsCounted P.Port L.config 1 (L.opened 1) r.0.p1 r.1.p1.sent turner.t1
+            × SendsCounted P.Port L.config 2 (L.opened 2) r.0.p2 r.1.p2.sent turner.t2
+            × SendsCounted P.Port L.config 3 (L.opened 3) r.0.p3 r.1.p3.sent turner.t3) }
         ensures fault { IfErr result (λ fault. (fault.seats.items ≡ seats.items)
             × AreUnsettled (record { granted = fault.granted; refused = fault.refused })
             (record { granted = fault.seats_granted; refused = fault.seats_refused }) seats.items) }
@@ -258,11 +261,17 @@ impl<P: Port + Send, L: Rates, G: Ledger, R: Ledger> Shared<P, L, G, R> {
         let mut desk = desk.into_inner();
         let sums = count_seats(seats.as_mut_slice(), &mut desk);
         if is_settled(&desk, sums) {
+            let Turner {
+                t0: mut book0,
+                t1: mut book1,
+                t2: mut book2,
+                t3: mut book3,
+            } = turner;
             return Ok(close_tables(
-                t0.into_inner().into_table(),
-                t1.into_inner().into_table(),
-                t2.into_inner().into_table(),
-                t3.into_inner().into_table(),
+                t0.into_inner().into_table(&mut book0),
+                t1.into_inner().into_table(&mut book1),
+                t2.into_inner().into_table(&mut book2),
+                t3.into_inner().into_table(&mut book3),
                 desk,
             ));
         }

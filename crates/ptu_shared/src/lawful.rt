@@ -1,8 +1,8 @@
 //! Tables of which a history is known: what stands behind the locks. No contract sees what is done
-//! under a lock, but whenever it is got, there is a history that the table stands for, and what the
-//! table's port was sent are messages of it.
+//! under a lock, but whenever it is got, there is a history that the table stands for, what the
+//! table's port was sent are messages of it, and its turns are counted.
 
-ghost use Rattle.std.specs.Prelude.{◌≡◌, ◌≤◌, ℕ, IfOk, IfSome, OnOk, [], max};
+ghost use Rattle.std.specs.Prelude.{◌≡◌, ◌≤◌, ◌+◌, ℕ, IfOk, IfSome, OnOk, [], max, option_map};
 ghost use Rattle.ptu_history.specs.Client.{table_of};
 ghost use Rattle.ptu_shard.specs.{Answered.{moment_of_answer}, Table.{StandsFor}};
 ghost use Rattle.ptu_shared.specs.{Answers.{AnswersAsk}, Delays.{IsLaterIfTooSoon}};
@@ -11,9 +11,11 @@ ghost use Rattle.ptu_shared.specs.{Histories.{SendsCounted}, Opening.{seen_of}};
 use crate::asking::{Demand, ask_all, ask_one};
 use crate::changing::{Change, cancel_one, resize_all};
 use crate::desk::Desk;
+use crate::opening::Unturned;
 use crate::place::{First, Fourth, Place, Second, Third};
 use crate::rates::Rates;
 use crate::table::Table;
+use crate::turning::{TurnBook, TurnsOf, audit_turns};
 use ptu_admit::{Cancelled, Resized, Verdict};
 use ptu_history::Client;
 use ptu_messages::Header;
@@ -22,17 +24,19 @@ use ptu_profile::GmConfig;
 use ptu_shard::{Answered, Turned};
 use ptu_units::{Kind, Moment, OutOfMemory};
 use std::marker::Model;
-use std::sync::ledger::Ledger;
+use std::sync::ledger::{Book, Ledger, Share};
 
 // A table at the place J, of which there is a history: the table stands for it, and of its messages
-// its port was sent a part, in order, since the table was made, as many as are counted. Contracts
-// see it as the table.
+// its port was sent a part, in order, since the table was made, as many as are counted. The share's
+// amount is the number of its turns. Contracts see it as the table.
 #[derive(Drop)]
 pub(crate) struct LawfulTable<P: Port, L: Rates, J: Place> {
     table: Table<P, L, J>,
+    turned: Share<TurnsOf<L, J>>,
 }
 
 impl<P: Port, L: Rates, J: Place> Model for LawfulTable<P, L, J> {
+    ghost use Rattle.std.specs.Prelude.{◌≡◌};
     ghost use Rattle.ptu_shard.specs.Table.{Kept};
     ghost use Rattle.ptu_shared.specs.Histories.{HasHistory};
 
@@ -41,18 +45,19 @@ impl<P: Port, L: Rates, J: Place> Model for LawfulTable<P, L, J> {
     ghost view = { λ t. t.table.shard };
 
     ghost invariant = { λ t. HasHistory P.Port L.config J.index (L.opened J.index) t.table.shard
-        t.table.tally.sent };
+        t.table.tally.sent t.turned.amount × (t.turned.parts ≡ 1) };
 }
 
 impl<P: Port, L: Rates, J: Place> LawfulTable<P, L, J> {
     // A table that nothing was done to.
-    pub fn new(table: Table<P, L, J>) -> LawfulTable<P, L, J>
+    pub fn new(table: Table<P, L, J>, unturned: Unturned<L, J>) -> LawfulTable<P, L, J>
         requires stands { (j : ℕ) → StandsFor j table.shard [] }
         requires port { seen_of P.Port table.shard.port ≡ L.opened J.index }
         requires sent { table.tally.sent ≡ 0 }
         ensures { result ≡ table.shard }
     {
-        LawfulTable { table }
+        let Unturned { share: turned } = unturned;
+        LawfulTable { table, turned }
     }
 
     /// Makes room for one row more.
@@ -65,12 +70,20 @@ impl<P: Port, L: Rates, J: Place> LawfulTable<P, L, J> {
         self.table.reserve()
     }
 
-    // A turn of the table, by `Table::turn`.
-    pub fn turn(&mut self, config: &GmConfig, table: usize, t: Moment) -> Turned
+    // A turn of the table, by `Table::turn`, which the book of its turns counts.
+    pub fn turn(
+        &mut self,
+        config: &GmConfig,
+        book: &mut Book<TurnsOf<L, J>>,
+        table: usize,
+        t: Moment,
+    ) -> Turned
         requires config { config.now ≡ L.config }
         requires table { table ≡ J.index }
-        ensures { result.at ≡ max t self.old.moment }
+        ensures at { result.at ≡ max t self.old.moment }
+        ensures turns { book.new.total ≡ book.old.total + 1 }
     {
+        book.add(&mut self.turned, 1);
         self.table.turn(config, table, t)
     }
 
@@ -98,12 +111,14 @@ impl<P: Port, L: Rates, J: Place> LawfulTable<P, L, J> {
         self.table.shard.next_due(until)
     }
 
-    // The table, as it is.
-    pub fn into_table(self) -> Table<P, L, J>
+    // The table, as it is. Its turns are those of the book, where there is one.
+    pub fn into_table(self, book: &mut TurnBook<L, J>) -> Table<P, L, J>
         ensures { SendsCounted P.Port L.config J.index (L.opened J.index) result.shard.port
-            result.tally.sent }
+            result.tally.sent (option_map (λ b. b.total) book.old) }
     {
-        self.table
+        let LawfulTable { table, mut turned } = self;
+        audit_turns(book, &mut turned);
+        table
     }
 }
 

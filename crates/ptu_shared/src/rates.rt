@@ -8,7 +8,8 @@ use std::marker::Brand;
 use std::sync::ledger::{self, Ledger, Share};
 
 /// The ledger of rates, which has four parts, one for each table. It names three numbers more,
-/// whose messages the tables send, and what their ports were like, which contracts alone see.
+/// whose messages the tables send, what their ports were like, and the ledgers of their turns, which
+/// contracts alone see.
 pub trait Rates: Ledger {
     /// The capacity that is in force at first, in sixteenths of a message per second.
     ghost opening: { ℕ };
@@ -24,6 +25,9 @@ pub trait Rates: Ledger {
 
     /// What is seen of the port of the table of each index when it is opened.
     ghost opened: { ℕ → Seen };
+
+    /// The name of the ledger of turns of the table of each index.
+    ghost turns: { ℕ → ℕ };
 }
 
 impl Rates for Brand {
@@ -36,6 +40,8 @@ impl Rates for Brand {
     ghost config = { sample_config };
 
     ghost opened = { λ _. untold_port };
+
+    ghost turns = { λ _. 0 };
 }
 
 // The share of a table went from the one to the other, and its part and the ledger's total go with

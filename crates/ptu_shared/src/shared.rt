@@ -1,21 +1,22 @@
 //! The four tables and the book, each behind a lock of its own, for several threads.
 
-ghost use Rattle.std.specs.Prelude.{◌≡◌, ◌≤◌, ◌<◌, ◌^◌, IfNone, IfOk, IfSome, OnErr, replicate};
+ghost use Rattle.std.specs.Prelude.{◌≡◌, ◌≤◌, ◌<◌, ◌^◌, ◌+◌, IfNone, IfOk, IfSome, OnErr, option_map, replicate};
 ghost use Rattle.ptu_history.specs.Client.{table_of as table_of_client};
 ghost use Rattle.ptu_shard.specs.Answered.{moment_of_answer};
 ghost use Rattle.ptu_shared.specs.{Answers.{AnswersAsk}, Blanks.{IsBlankOf}};
 ghost use Rattle.ptu_shared.specs.{Delays.{IsLaterIfTooSoon}, Opening.{seen_of}};
-ghost use Rattle.ptu_shared.specs.Seats.{counting, no_verdicts};
+ghost use Rattle.ptu_shared.specs.{Seats.{counting, no_verdicts}, Turning.{with_turn}};
 
 use crate::asking::Demand;
 use crate::changing::Change;
 use crate::desk::{Desk, open_desk};
 use crate::lawful::{LawfulTable, ask_all_lawful, ask_lawful, cancel_lawful, resize_lawful};
-use crate::opening::{Blanks, TablePorts};
+use crate::opening::{Ledgers, TablePorts};
 use crate::place::{First, Fourth, Place, Second, Third};
 use crate::rates::Rates;
 use crate::seat::Seat;
 use crate::table::Table;
+use crate::turning::{TurnBook, Turner};
 use ptu_admit::{Cancelled, Resized, Verdict};
 use ptu_history::{Client, table_of};
 use ptu_messages::{Ask, Header};
@@ -48,22 +49,22 @@ impl<P: Port + Send, L: Rates, G: Ledger, R: Ledger> Shared<P, L, G, R> {
     /// and all seats from which asks are counted.
     ///
     /// The blanks become the ledgers: that of rates has four parts, and those of granted and
-    /// refused asks have one for each seat. A caller makes the three and calls a function that is
-    /// generic over the ledgers, with `Brand` for each; whatever holds a share lives inside that
-    /// call.
+    /// refused asks have one for each seat. A caller makes the `Blanks` and calls a function that is
+    /// generic over the ledgers, with `Brand` for each, which opens those of turns; whatever holds
+    /// a share lives inside that call.
     ///
     /// # Errors
     /// `OutOfMemory`, with the ports and the blanks dropped.
     pub fn new(
         alloc: Global,
-        blanks: Blanks,
+        ledgers: Ledgers<L>,
         capacity: Capacity,
         seats: usize,
         ports: TablePorts<P>,
     ) -> Result<(Shared<P, L, G, R>, Vec<Seat<G, R>>), OutOfMemory>
-        requires rates { IsBlankOf L.name L.parts 4 blanks.rates }
-        requires granted { IsBlankOf G.name G.parts L.seats blanks.granted }
-        requires refused { IsBlankOf R.name R.parts L.seats blanks.refused }
+        requires rates { IsBlankOf L.name L.parts 4 ledgers.rates }
+        requires granted { IsBlankOf G.name G.parts L.seats ledgers.granted }
+        requires refused { IsBlankOf R.name R.parts L.seats ledgers.refused }
         requires opening { capacity ≡ L.opening }
         requires most { capacity ≤ L.most }
         requires ports { (seen_of P.Port ports.p0 ≡ L.opened 0)
@@ -73,11 +74,15 @@ impl<P: Port + Send, L: Rates, G: Ledger, R: Ledger> Shared<P, L, G, R> {
         requires seats { (1 ≤ seats) × (seats ≤ 64) × (seats ≡ L.seats) }
         ensures seats { IfOk result (λ made. made.1.items ≡ replicate seats no_verdicts) }
     {
-        let Blanks {
+        let Ledgers {
             rates,
             granted,
             refused,
-        } = blanks;
+            t0,
+            t1,
+            t2,
+            t3,
+        } = ledgers;
         let TablePorts { p0, p1, p2, p3 } = ports;
         let (rates, mut part) = rates.open::<L>();
         let part3 = part.split_off(1, 0);
@@ -86,10 +91,10 @@ impl<P: Port + Send, L: Rates, G: Ledger, R: Ledger> Shared<P, L, G, R> {
         let (desk, given) = open_desk(alloc, rates, granted, refused, capacity, seats)?;
         let shared = Shared {
             alloc,
-            t0: Mutex::new(LawfulTable::new(Table::new(alloc, p0, part))),
-            t1: Mutex::new(LawfulTable::new(Table::new(alloc, p1, part1))),
-            t2: Mutex::new(LawfulTable::new(Table::new(alloc, p2, part2))),
-            t3: Mutex::new(LawfulTable::new(Table::new(alloc, p3, part3))),
+            t0: Mutex::new(LawfulTable::new(Table::new(alloc, p0, part), t0)),
+            t1: Mutex::new(LawfulTable::new(Table::new(alloc, p1, part1), t1)),
+            t2: Mutex::new(LawfulTable::new(Table::new(alloc, p2, part2), t2)),
+            t3: Mutex::new(LawfulTable::new(Table::new(alloc, p3, part3), t3)),
             desk: Mutex::new(desk),
         };
         Ok((shared, given))
@@ -251,18 +256,47 @@ impl<P: Port + Send, L: Rates, G: Ledger, R: Ledger> Shared<P, L, G, R> {
         resize_lawful(&mut t0, &mut t1, &mut t2, &mut t3, &mut desk, change)
     }
 
-    /// A turn of the table of this index, at a moment that is not before `t`.
-    pub fn turn(&self, rt: &impl Wait, config: &GmConfig, table: usize, t: Moment) -> Turned
+    /// A turn of the table of this index, at a moment that is not before `t`, by who may turn it,
+    /// and `None` by who may not.
+    pub fn turn(
+        &self,
+        rt: &impl Wait,
+        config: &GmConfig,
+        turner: &mut Turner<L>,
+        table: usize,
+        t: Moment,
+    ) -> Option<Turned>
         requires config { config.now ≡ L.config }
         requires table { table < 4 }
-        ensures { t ≤ result.at }
+        ensures at { IfSome result (λ r. t ≤ r.at) }
+        ensures turns { turner.new ≡ with_turn table turner.old }
     {
         match table {
-            0 => self.t0.lock(rt).turn(config, table, t),
-            1 => self.t1.lock(rt).turn(config, table, t),
-            2 => self.t2.lock(rt).turn(config, table, t),
-            _ => self.t3.lock(rt).turn(config, table, t),
+            0 => self.turn_at(rt, &self.t0, config, &mut turner.t0, table, t),
+            1 => self.turn_at(rt, &self.t1, config, &mut turner.t1, table, t),
+            2 => self.turn_at(rt, &self.t2, config, &mut turner.t2, table, t),
+            _ => self.turn_at(rt, &self.t3, config, &mut turner.t3, table, t),
         }
+    }
+
+    // A turn under the lock of this table, which the book counts, where there is one.
+    fn turn_at<J: Place>(
+        &self,
+        rt: &impl Wait,
+        table: &Mutex<LawfulTable<P, L, J>>,
+        config: &GmConfig,
+        book: &mut TurnBook<L, J>,
+        index: usize,
+        t: Moment,
+    ) -> Option<Turned>
+        requires config { config.now ≡ L.config }
+        requires table { index ≡ J.index }
+        ensures at { IfSome result (λ r. t ≤ r.at) }
+        ensures turns { option_map (λ b. b.total) book.new
+            ≡ option_map (λ n. n + 1) (option_map (λ b. b.total) book.old) }
+    {
+        let book = book.as_mut()?;
+        Some(table.lock(rt).turn(config, book, index, t))
     }
 
     /// Answers a Delay_Req of the client at a moment that is not before `t`.

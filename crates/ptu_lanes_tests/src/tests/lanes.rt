@@ -1,13 +1,13 @@
 ghost use Rattle.std.specs.Prelude.{◌≡◌, ◌≤◌, ℕ, length, IfOk};
-ghost use Rattle.ptu_shared.specs.{Blanks.{IsBlankOf}, Opening.{idle_port, sample_config}};
+ghost use Rattle.ptu_shared.specs.{Blanks.{IsBlankOf}, Opening.{idle_port, sample_config}, Turning.{AreTurnBlanks}};
 
 use ptu_admit::{Closed, Verdict};
 use ptu_history::Client;
 use ptu_lanes::{Base, Control, Delays, Service, control_round, delay_round, turn_round};
 use ptu_messages::Ask;
-use ptu_outside::{Arrival, Channel, Datagram, MemClock, MemPort, Sends, samples};
+use ptu_outside::{Arrival, Channel, Datagram, MemClock, MemPort, samples};
 use ptu_shard::samples::{CONFIG, ONE, TWO, ZERO};
-use ptu_shared::{Blanks, Rates, Seat, Shared, TablePorts};
+use ptu_shared::{Blanks, Rates, Seat, Shared, TablePorts, Turner, Turners};
 use ptu_units::{Capacity, Moment};
 use std::alloc::Global;
 use std::marker::Brand;
@@ -195,6 +195,7 @@ fn answer_and_turn<L: Rates, G: Ledger, R: Ledger, W: Wait + Abort>(
     rt: &W,
     alloc: Global,
     shared: &Shared<MemPort, L, G, R>,
+    turner: &mut Turner<L>,
     port: &mut MemPort,
 ) -> Result<(), Fail>
     requires { L.config ≡ sample_config }
@@ -218,8 +219,7 @@ fn answer_and_turn<L: Rates, G: Ledger, R: Ledger, W: Wait + Abort>(
     };
     assert!(rt; answered == sent);
     assert!(rt; port.sent(0).is_none());
-    let turned = turn_round(&service, &mut clock, 1, 2);
-    assert!(rt; turned == Sends { sent: 1, failed: 0 });
+    turn_round(&service, turner, &mut clock);
     Ok(())
 }
 
@@ -246,6 +246,7 @@ fn send<L: Rates, G: Ledger, R: Ledger, W: Wait + Abort>(
     alloc: Global,
     shared: &Shared<MemPort, L, G, R>,
     seats: &mut [Seat<G, R>],
+    turner: Turner<L>,
 ) -> Result<(), Fail>
     requires ledger { L.parts ≡ 4 }
     requires config { L.config ≡ sample_config }
@@ -253,7 +254,8 @@ fn send<L: Rates, G: Ledger, R: Ledger, W: Wait + Abort>(
     let waiting = vec![in alloc; arrival(alloc, DELAY_REQ)?]?;
     let mut port = MemPort::new(alloc, waiting, Vec::new(alloc), Vec::new(alloc));
     grant_four(rt, shared, seats);
-    answer_and_turn(rt, alloc, shared, &mut port)
+    let Turners { mut second, .. } = turner.share_out(2);
+    answer_and_turn(rt, alloc, shared, &mut second, &mut port)
 }
 
 fn send_and_close<L: Rates, G: Ledger, R: Ledger, W: Wait + Abort>(
@@ -261,11 +263,12 @@ fn send_and_close<L: Rates, G: Ledger, R: Ledger, W: Wait + Abort>(
     alloc: Global,
     shared: Shared<MemPort, L, G, R>,
     mut seats: Vec<Seat<G, R>>,
+    turner: Turner<L>,
 ) -> Result<(), Fail>
     requires ledgers { (L.parts ≡ 4) × (G.parts ≡ L.seats) × (R.parts ≡ L.seats) }
     requires config { L.config ≡ sample_config }
 {
-    send(rt, alloc, &shared, seats.as_mut_slice())?;
+    send(rt, alloc, &shared, seats.as_mut_slice(), turner)?;
     let closed = match shared.close(seats) {
         Ok(closed) => closed,
         Err(_) => panic!(rt; "no seat is missing"),
@@ -299,6 +302,7 @@ fn play<L: Rates, G: Ledger, R: Ledger, W: Wait + Abort>(
     requires rates { IsBlankOf L.name L.parts 4 blanks.rates }
     requires granted { IsBlankOf G.name G.parts L.seats blanks.granted }
     requires refused { IsBlankOf R.name R.parts L.seats blanks.refused }
+    requires turns { AreTurnBlanks L.turns blanks.turns }
     requires most { capacity ≤ L.most }
     requires opening { capacity ≡ L.opening }
     requires config { L.config ≡ sample_config }
@@ -308,10 +312,11 @@ fn play<L: Rates, G: Ledger, R: Ledger, W: Wait + Abort>(
     let (p0, p1) = (samples::idle_port(alloc), samples::idle_port(alloc));
     let (p2, p3) = (samples::idle_port(alloc), samples::idle_port(alloc));
     let ports = TablePorts { p0, p1, p2, p3 };
-    let (shared, mut seats) = Shared::<MemPort, L, G, R>::new(alloc, blanks, capacity, 1, ports)?;
+    let (ledgers, turner) = blanks.open::<L>();
+    let (shared, mut seats) = Shared::<MemPort, L, G, R>::new(alloc, ledgers, capacity, 1, ports)?;
     match scene {
         Scene::Requests => ask_twice(rt, alloc, &shared, seats.as_mut_slice()),
-        Scene::Lanes => send_and_close(rt, alloc, shared, seats),
+        Scene::Lanes => send_and_close(rt, alloc, shared, seats, turner),
     }
 }
 

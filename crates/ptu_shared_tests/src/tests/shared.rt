@@ -1,5 +1,5 @@
 ghost use Rattle.std.specs.Prelude.{◌≡◌, ◌≤◌, ◌<◌, ℕ};
-ghost use Rattle.ptu_shared.specs.{Blanks.{IsBlankOf}, Opening.{idle_port, sample_config}};
+ghost use Rattle.ptu_shared.specs.{Blanks.{IsBlankOf}, Opening.{idle_port, sample_config}, Turning.{AreTurnBlanks}};
 
 use ptu_admit::samples::{Told, numbers_of};
 use ptu_admit::{Closed, Outside};
@@ -8,7 +8,7 @@ use ptu_messages::Ask;
 use ptu_outside::{MemPort, Port, samples};
 use ptu_shard::Answered;
 use ptu_shard::samples::{CONFIG, DELAY_REQ, SECOND, THREE, TWO};
-use ptu_shared::{Blanks, CloseFault, Rates, Seat, Shared, TablePorts};
+use ptu_shared::{Blanks, CloseFault, Rates, Seat, Shared, TablePorts, Turner};
 use ptu_units::{Capacity, Kind, Moment};
 use std::alloc::Global;
 use std::marker::Brand;
@@ -67,13 +67,15 @@ pub(crate) fn ask<P: Port + Send, L: Rates, G: Ledger, R: Ledger, W: Wait + Abor
 pub(crate) fn turn<P: Port + Send, L: Rates, G: Ledger, R: Ledger, W: Wait + Abort>(
     rt: &W,
     shared: &Shared<P, L, G, R>,
+    turner: &mut Turner<L>,
     table: usize,
     t: u64,
 ) -> (u64, u64)
     requires table { table < 4 }
     requires config { L.config ≡ sample_config }
 {
-    let turned = shared.turn(rt, &CONFIG, table, moment(rt, t));
+    let turned = shared.turn(rt, &CONFIG, turner, table, moment(rt, t));
+    let turned = turned.expect(rt, "the table may be turned");
     (turned.sent, turned.failed)
 }
 
@@ -122,6 +124,7 @@ struct Course {
 struct Site<L: Rates, G: Ledger, R: Ledger> {
     shared: Shared<MemPort, L, G, R>,
     seats: Vec<Seat<G, R>>,
+    turner: Turner<L>,
 }
 
 impl<L: Rates, G: Ledger, R: Ledger> Site<L, G, R> {
@@ -164,7 +167,7 @@ impl<L: Rates, G: Ledger, R: Ledger> Site<L, G, R> {
             }
             Step::Turn(table, sent) => {
                 assert!(rt; table < 4);
-                assert!(rt; turn(rt, &self.shared, table, t) == (sent, 0));
+                assert!(rt; turn(rt, &self.shared, &mut self.turner, table, t) == (sent, 0));
             }
             Step::Answers => assert!(rt; self.delay(rt, at) == Answered::Sent { at }),
             Step::MeetsNoGrant => assert!(rt; self.delay(rt, at) == Answered::NoGrant { at }),
@@ -203,7 +206,11 @@ impl<L: Rates, G: Ledger, R: Ledger> Site<L, G, R> {
     fn close_late(self, rt: &impl Abort, all: (u64, u64), others: (u64, u64)) -> Closed<MemPort>
         requires { (L.parts ≡ 4) × (G.parts ≡ L.seats) × (R.parts ≡ L.seats) }
     {
-        let Site { shared, mut seats } = self;
+        let Site {
+            shared,
+            mut seats,
+            turner,
+        } = self;
         let missing = seats.pop().expect(rt, "there is a seat");
         let left = seats.len();
         let Err(fault) = shared.close(seats) else {
@@ -218,7 +225,12 @@ impl<L: Rates, G: Ledger, R: Ledger> Site<L, G, R> {
         } = fault;
         assert!(rt; seats.len() == left);
         seats.push(missing).expect(rt, "memory is found");
-        Site { shared, seats }.close(rt)
+        let site = Site {
+            shared,
+            seats,
+            turner,
+        };
+        site.close(rt)
     }
 
     // Takes the steps, closes, and compares what is counted.
@@ -426,6 +438,7 @@ where
     requires rates { IsBlankOf L.name L.parts 4 blanks.rates }
     requires granted { IsBlankOf G.name G.parts L.seats blanks.granted }
     requires refused { IsBlankOf R.name R.parts L.seats blanks.refused }
+    requires turns { AreTurnBlanks L.turns blanks.turns }
     requires opening { capacity ≡ L.opening }
     requires most { (capacity ≤ L.most) × (8 ≤ L.most) }
     requires config { L.config ≡ sample_config }
@@ -435,8 +448,13 @@ where
     let (p0, p1) = (samples::idle_port(alloc), samples::idle_port(alloc));
     let (p2, p3) = (samples::idle_port(alloc), samples::idle_port(alloc));
     let ports = TablePorts { p0, p1, p2, p3 };
-    let (shared, seats) = Shared::<MemPort, L, G, R>::new(alloc, blanks, capacity, seats, ports)?;
-    let site = Site { shared, seats };
+    let (ledgers, turner) = blanks.open::<L>();
+    let (shared, seats) = Shared::<MemPort, L, G, R>::new(alloc, ledgers, capacity, seats, ports)?;
+    let site = Site {
+        shared,
+        seats,
+        turner,
+    };
     match scene {
         Scene::Course(course) => site.run(rt, &course),
         Scene::TwoThreads => ask_from_two_seats(rt, site),

@@ -1,10 +1,10 @@
 ghost use Rattle.std.specs.Prelude.{◌≡◌, ◌≤◌, ℕ, None};
-ghost use Rattle.ptu_shared.specs.{Blanks.{IsBlankOf}, Opening.{sample_config, untold_port}};
+ghost use Rattle.ptu_shared.specs.{Blanks.{IsBlankOf}, Opening.{sample_config, untold_port}, Turning.{AreTurnBlanks}};
 
 use super::shared::{ANNOUNCE, GRANTED, GRANTED_LATER, SYNC, ask, capacity, moment, turn};
 use ptu_outside::{Channel, Failed, Port};
 use ptu_shard::samples::{ONE, SECOND, THREE, TWO, ZERO};
-use ptu_shared::{Blanks, Rates, Seat, Shared, TablePorts};
+use ptu_shared::{Blanks, Rates, Seat, Shared, TablePorts, Turner, Turners};
 use ptu_units::{Capacity, Kind, Moment};
 use std::alloc::Global;
 use std::marker::Brand;
@@ -145,11 +145,11 @@ struct Held<'s, 'g, L: Rates, G: Ledger, R: Ledger> {
 
 impl<L: Rates + Sync, G: Ledger + Sync, R: Ledger + Sync> Held<'_, '_, L, G, R> {
     // While table 0 is held, a turn of table 1 returns; then table 0 goes on.
-    fn turn_beside(&self, rt: &(impl Wait + Abort)) -> (u64, u64)
+    fn turn_beside(&self, rt: &(impl Wait + Abort), mut turner: Turner<L>) -> (u64, u64)
         requires { L.config ≡ sample_config }
     {
         self.gate.await_entered();
-        let turned = turn(rt, self.shared, 1, SECOND);
+        let turned = turn(rt, self.shared, &mut turner, 1, SECOND);
         self.gate.open();
         turned
     }
@@ -209,6 +209,7 @@ impl<L: Rates + Sync, G: Ledger + Sync, R: Ledger + Sync> Held<'_, '_, L, G, R> 
         &self,
         rt: &W,
         call: Option<Call>,
+        turner: Turner<L>,
         first: Seat<G, R>,
         second: Seat<G, R>,
     )
@@ -217,7 +218,7 @@ impl<L: Rates + Sync, G: Ledger + Sync, R: Ledger + Sync> Held<'_, '_, L, G, R> 
         requires config { L.config ≡ sample_config }
     {
         let Some(call) = call else {
-            assert!(rt; self.turn_beside(rt) == (1, 0));
+            assert!(rt; self.turn_beside(rt, turner) == (1, 0));
             return;
         };
         let _ = thread::join(
@@ -237,6 +238,7 @@ impl<L: Rates + Sync, G: Ledger + Sync, R: Ledger + Sync> Held<'_, '_, L, G, R> 
         &self,
         rt: &W,
         mut seats: Vec<Seat<G, R>>,
+        turner: Turner<L>,
         call: Option<Call>,
     )
         requires ledger { L.parts ≡ 4 }
@@ -245,6 +247,11 @@ impl<L: Rates + Sync, G: Ledger + Sync, R: Ledger + Sync> Held<'_, '_, L, G, R> 
     {
         let mut seat = seats.pop().expect(rt, "there are two seats");
         let other = seats.pop().expect(rt, "there are two seats");
+        let Turners {
+            first: mut first_turner,
+            second: second_turner,
+            ..
+        } = turner.share_out(2);
         for client in [ZERO, ONE] {
             let told = ask(rt, self.shared, &mut seat, 0, &client, (SYNC, 0));
             assert!(rt; told == GRANTED);
@@ -253,10 +260,10 @@ impl<L: Rates + Sync, G: Ledger + Sync, R: Ledger + Sync> Held<'_, '_, L, G, R> 
             rt,
             move ||
                 requires { L.config ≡ sample_config }
-            { turn(rt, self.shared, 0, SECOND) },
+            { turn(rt, self.shared, &mut first_turner, 0, SECOND) },
             move ||
                 requires { (L.parts ≡ 4) × (64 ≤ L.most) × (L.config ≡ sample_config) }
-            { self.go_on_beside(rt, call, other, seat) },
+            { self.go_on_beside(rt, call, second_turner, other, seat) },
         );
         assert!(rt; turned == (1, 0));
         assert!(rt; !self.gate.is_late(), "the ask went on");
@@ -280,6 +287,7 @@ where
     requires rates { IsBlankOf L.name L.parts 4 blanks.rates }
     requires granted { IsBlankOf G.name G.parts L.seats blanks.granted }
     requires refused { IsBlankOf R.name R.parts L.seats blanks.refused }
+    requires turns { AreTurnBlanks L.turns blanks.turns }
     requires opening { capacity ≡ L.opening }
     requires most { (capacity ≤ L.most) × (64 ≤ L.most) }
     requires config { L.config ≡ sample_config }
@@ -291,12 +299,13 @@ where
     let p2 = HeldPort { gate: None };
     let p3 = HeldPort { gate: None };
     let ports = TablePorts { p0, p1, p2, p3 };
-    let (shared, seats) = Shared::<HeldPort<'_>, L, G, R>::new(alloc, blanks, capacity, 2, ports)?;
+    let (ledgers, turner) = blanks.open::<L>();
+    let (shared, seats) = Shared::<HeldPort<'_>, L, G, R>::new(alloc, ledgers, capacity, 2, ports)?;
     let held = Held {
         shared: &shared,
         gate,
     };
-    held.turn_and_call(rt, seats, call);
+    held.turn_and_call(rt, seats, turner, call);
     Ok(())
 }
 

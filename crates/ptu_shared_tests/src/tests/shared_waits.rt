@@ -1,5 +1,5 @@
 ghost use Rattle.std.specs.Prelude.{◌≡◌, ◌≤◌, ℕ, None};
-ghost use Rattle.ptu_shared.specs.{Blanks.{IsBlankOf}, Opening.{untold_port}};
+ghost use Rattle.ptu_shared.specs.{Blanks.{IsBlankOf}, Opening.{untold_port}, Turning.{AreTurnBlanks}};
 
 use super::shared::{ANNOUNCE, GRANTED, SYNC, ask, capacity, moment};
 use super::shared_held::{Gate, HeldPort, closed_gate};
@@ -76,6 +76,7 @@ where
     requires rates { IsBlankOf L.name L.parts 4 blanks.rates }
     requires granted { IsBlankOf G.name G.parts L.seats blanks.granted }
     requires refused { IsBlankOf R.name R.parts L.seats blanks.refused }
+    requires turns { AreTurnBlanks L.turns blanks.turns }
     requires opening { L.opening ≡ 64 }
     requires most { 64 ≤ L.most }
     requires seats { L.seats ≡ 1 }
@@ -87,9 +88,10 @@ where
         p2: UNASKED,
         p3: UNASKED,
     };
+    let (ledgers, _) = blanks.open::<L>();
     let (shared, mut seats) = Shared::<PatientPort, L, G, R>::new(
         alloc,
-        blanks,
+        ledgers,
         capacity(rt, 64),
         1,
         ports,
@@ -144,6 +146,7 @@ where
     requires rates { IsBlankOf L.name L.parts 4 blanks.rates }
     requires granted { IsBlankOf G.name G.parts L.seats blanks.granted }
     requires refused { IsBlankOf R.name R.parts L.seats blanks.refused }
+    requires turns { AreTurnBlanks L.turns blanks.turns }
     requires opening { L.opening ≡ 64 }
     requires most { 64 ≤ L.most }
     requires seats { L.seats ≡ 1 }
@@ -156,9 +159,10 @@ where
         p2: free(),
         p3: free(),
     };
+    let (ledgers, _) = blanks.open::<L>();
     let (shared, mut seats) = Shared::<HeldPort<'_>, L, G, R>::new(
         alloc,
-        blanks,
+        ledgers,
         capacity(rt, 64),
         1,
         ports,

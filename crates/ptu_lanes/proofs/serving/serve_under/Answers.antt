@@ -1,5 +1,5 @@
 use Rattle.std.proofs.Common.{◌≡◌, [], subst, sym}
-use Rattle.ptu_lanes.specs.{Crew.{LanesServed}, Served.{TablesSent}}
+use Rattle.ptu_lanes.specs.{Crew.{LanesServed, turns_by}, Served.{TablesSent}}
 use Rattle.ptu_lanes.proofs.Controlled.{serves_by_lanes}
 use Rattle.ptu_lanes.proofs.serving.serve_under.Goals as goal
 
@@ -10,4 +10,4 @@ returns g c =
     let closing = c.in_ok-back.ensures in
     serves_by_lanes g.P.Port g.C.Clock c.args.settings.now c.args.base.now.config.now c.args.opened c.in_ok-back.back c.in_ok-back.totals lanes c.capacity_at_end.result g.L.Rates.opened c.capacity_at_end.ensures
     c.requires.ports done.0 closing.ports closing.clocks closing.tables closing.totals closing.held
-    (subst (λ config. TablesSent g.P.Port config g.L.Rates.opened c.in_ok-back.back lanes.control.tally.sent c.in_ok-back.totals.sent) (sym c.requires.config) closing.sent)
+    (subst (λ config. TablesSent g.P.Port config g.L.Rates.opened c.in_ok-back.back lanes.control.tally.sent c.in_ok-back.totals.sent (turns_by lanes.sending)) (sym c.requires.config) closing.sent)

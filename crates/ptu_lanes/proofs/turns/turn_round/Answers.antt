@@ -1,17 +1,23 @@
-use Rattle.std.proofs.Common.{◌≡◌, arith, sym}
-use Rattle.ptu_lanes.proofs.Moments.{own_first, passed_as, passed_none, passed_one, passed_own}
-use Rattle.ptu_lanes.specs.Waiting.{own_below}
+use Rattle.std.proofs.Common.{◌≡◌, ◌+◌, arith}
+use Rattle.ptu_lanes.specs.Waiting.{PassedBy, one_right}
+use Rattle.ptu_lanes.proofs.Moments.{passed-append, passed_as}
 use Rattle.ptu_lanes.proofs.turns.turn_round.Goals as goal
 
-pub loop-table-init : goal.loop-table-init
-loop-table-init g c =
-    passed_as 0 (own_below c.args.lanes c.args.lane 0) _ _ (sym (own_first c.args.lanes c.args.lane)) (passed_none (g.C.Clock.moments c.args.clock.now))
+pub returns-clause-moments : goal.returns-clause-moments
+returns-clause-moments g c =
+    let turns = c.args.turner.now in
+    let a = one_right turns.t0 in
+    let b = one_right turns.t1 in
+    let d = one_right turns.t2 in
+    let e = one_right turns.t3 in
+    let second : PassedBy b (g.C.Clock.moments c.turn_one.new.clock) (g.C.Clock.moments c.turn_one-2.new.clock) = rw c.turn_one.ensures.turns at c.turn_one-2.ensures.moments in
+    let third : PassedBy d (g.C.Clock.moments c.turn_one-2.new.clock) (g.C.Clock.moments c.turn_one-3.new.clock) =
+    rw c.turn_one.ensures.turns at (rw c.turn_one-2.ensures.turns at c.turn_one-3.ensures.moments) in
+    let fourth : PassedBy e (g.C.Clock.moments c.turn_one-3.new.clock) (g.C.Clock.moments c.turn_one-4.new.clock) =
+    rw c.turn_one.ensures.turns at (rw c.turn_one-2.ensures.turns at (rw c.turn_one-3.ensures.turns at c.turn_one-4.ensures.moments)) in
+    passed-append (0 + a + b + d) e _ _ _
+    (passed-append (0 + a + b) d _ _ _ (passed-append (0 + a) b _ _ _ (passed_as a (0 + a) _ _ (omega arith) c.turn_one.ensures.moments) second) third) fourth
 
-pub returns : goal.returns
-returns g c =
-    let all : c.loop-table.table ≡ 4 = omega (arith, c.loop-table-test.false, c.loop-table.auto.table-end) in
-    rw all at c.loop-table.invariant
-
-pub loop-table-preserved : goal.loop-table-preserved
-loop-table-preserved g c =
-    passed_own c.args.lanes c.args.lane c.loop-table.table _ _ _ _ c.is_own-own.ensures c.loop-table.invariant c.turn_if_own-one.ensures
+pub returns-clause-turns : goal.returns-clause-turns
+returns-clause-turns g c =
+    rw c.turn_one.ensures.turns at (rw c.turn_one-2.ensures.turns at (rw c.turn_one-3.ensures.turns at c.turn_one-4.ensures.turns))

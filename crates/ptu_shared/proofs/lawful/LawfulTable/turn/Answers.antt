@@ -1,10 +1,12 @@
-use Rattle.std.proofs.Common.{arith, sym}
+use Rattle.std.proofs.Common.{◌∙◌, arith, sym}
 use Rattle.ptu_shared.proofs.Histories.{turned}
 use Rattle.ptu_shared.proofs.lawful.LawfulTable.turn.Goals as goal
 
 pub invariant_of-self : goal.invariant_of-self
 invariant_of-self g c =
-    let did = c.turn.ensures in
-    rw did.sent
-    (turned g.P.Port g.L.Rates.config g.J.Place.index (g.L.Rates.opened g.J.Place.index) c.self.inside.table.shard c.turn.new.self.shard _ c.self.invariant
-    c.turn.result.at c.turn.result.sent c.turn.result.failed did.moment (omega (arith, did.at)) (rw (sym c.requires.config) did.sends) did.messages did.stands)
+    let did = c.turn.ensures in (
+      rw (did.sent, c.add.ensures.amount)
+          (turned g.P.Port g.L.Rates.config g.J.Place.index (g.L.Rates.opened g.J.Place.index) c.self.inside.table.shard c.turn.new.self.shard _ _ c.self.invariant.0
+          c.turn.result.at c.turn.result.sent c.turn.result.failed did.moment (omega (arith, did.at)) (rw (sym c.requires.config) did.sends) did.messages did.stands),
+      c.add.ensures.parts ∙ c.self.invariant.1,
+    )

@@ -13,7 +13,7 @@ pub returns-then-is_settled-clause-lawful : goal.returns-then-is_settled-clause-
 returns-then-is_settled-clause-lawful g c =
     let ports = c.close_tables.ensures.ports in
     let tallies = c.close_tables.ensures.tallies in
-    rw (ports.0, ports.1, ports.2, ports.3, tallies.0, tallies.1, tallies.2, tallies.3) (c.into_table.ensures, c.into_table-then-is_settled.ensures, c.into_table-then-is_settled-2.ensures, c.into_table-then-is_settled-3.ensures)
+    rw (← c.turner.view_is, ports.0, ports.1, ports.2, ports.3, tallies.0, tallies.1, tallies.2, tallies.3) (c.into_table.ensures, c.into_table-then-is_settled.ensures, c.into_table-then-is_settled-2.ensures, c.into_table-then-is_settled-3.ensures)
 
 -- a vector whose elements were lent and came back as they were
 filled_again : {A : Type 0} (n : ℕ) (xs ys : List A) → n ≡ length xs → ys ≡ xs → take n (ys ++ drop (length ys) xs) ≡ xs
@@ -27,3 +27,9 @@ returns-clause-fault g c =
       filled_again c.args.seats.len c.args.seats.items c.count_seats-sums.new.seats c.args.seats.ok.0 (c.count_seats-sums.ensures.seats ∙ c.as_mut_slice.ensures.value),
       record { granted = sums.0; refused = sums.1; differ = λ same. false≢true (sym c.if-is_settled.false ∙ c.is_settled.ensures.1 same) },
     )
+
+pub returns-clause-all : goal.returns-clause-all
+returns-clause-all g c all =
+    let counted = c.count_seats-sums.ensures.all (ap length c.as_mut_slice.ensures.value ∙ sym c.args.seats.ok.0 ∙ all) in
+    let desk = c.count_seats-sums.ensures.desk in
+    absurd (false≢true (sym c.if-is_settled.false ∙ c.is_settled.ensures.1 (counted.0 ∙ sym desk.1, counted.1 ∙ sym desk.2)))
