@@ -1,5 +1,5 @@
 -- What was handed to a port, one part after the other.
-use Rattle.std.proofs.Common.{◌≡◌, ℕ, ◌+◌, ◌++◌, List, []}
+use Rattle.std.proofs.Common.{ℕ, ◌+◌, ◌++◌, List, []}
 use Rattle.ptu_outside.specs.{declared.port.Port.{Ghosts as Ports}, Departure.{Departure}}
 use Rattle.ptu_outside.specs.{Faults.{HasNotFallen, HasRisen}, HandsOver.{HandsOver}}
 use Rattle.ptu_outside.proofs.HandsOver.{goes_on_both, none_failed, rises_first, rises_second, sent_both, sent_none, told_both, told_none}

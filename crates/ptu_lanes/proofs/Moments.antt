@@ -1,5 +1,5 @@
 -- Moments that are taken of a clock, and those of the lanes that turn tables.
-use Rattle.std.proofs.Common.{◌≡◌, ◌∙◌, ℕ, suc, zero, ◌+◌, ◌*◌, ◌≤◌, ◌<◌, List, refl, sym, ap, subst, arith, Option, Some, None}
+use Rattle.std.proofs.Common.{◌≡◌, ◌∙◌, ℕ, suc, zero, ◌+◌, ◌*◌, ◌≤◌, List, refl, sym, ap, subst, arith, Option, Some, None}
 use Rattle.std.specs.Prelude.{option_map, ◌%◌, ◌==◌, Bool, true, false, if◌then◌else◌, is_some}
 use Rattle.std.proofs.Math.Nat.{mul-add}
 use Rattle.ptu_outside.specs.{Clocks.{after_first}, Telling.{IfTold}}

@@ -1,5 +1,5 @@
 -- What lanes did, by what their calls came to.
-use Rattle.std.proofs.Common.{◌≡◌, ◌∙◌, ℕ, refl, Result, Ok, Err}
+use Rattle.std.proofs.Common.{◌≡◌, ◌∙◌, Result, Ok, Err}
 use Rattle.std.specs.Prelude.{IfOk}
 use Rattle.ptu_lanes.specs.declared.calls.Called.{Called}
 use Rattle.ptu_lanes.specs.declared.calls.Called.TheVariants.{Idle, Left, Served}

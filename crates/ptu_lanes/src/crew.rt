@@ -383,7 +383,7 @@ where
         if self.gate.get().is_some() {
             let event = event.called(self.base.rt).left()?;
             let sending = self.left_sending(sending)?;
-            let (c2, c3, c4, c5) = sending.into_clocks();
+            let (_, (c2, c3, c4, c5)) = sending.into_parts();
             return Ok(Done::Refused(Opened {
                 p5: event.port,
                 c1: event.clock,

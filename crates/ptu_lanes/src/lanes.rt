@@ -2,6 +2,7 @@
 
 ghost use Rattle.std.specs.Prelude.{◌≡◌, ◌+◌, ◌-◌, ◌*◌, ◌^◌, ◌≤◌, ◌<◌, min, Ok, IfOk};
 ghost use Rattle.ptu_shared.specs.Turning.{after_rounds};
+ghost use Rattle.ptu_lanes.specs.Crew.{turns_by};
 ghost use Rattle.ptu_lanes.specs.Stretches.{ControlLaneDid, EventLaneDid, SendingLaneDid};
 ghost use Rattle.ptu_lanes.specs.Waiting.{PassedBy, rights};
 
@@ -85,10 +86,11 @@ pub(crate) struct SendingLanes<C: Clock, L: Rates> {
 }
 
 impl<C: Clock, L: Rates> SendingLanes<C, L> {
-    /// Their clocks.
-    pub(crate) fn into_clocks(self) -> (C, C, C, C)
-        ensures { (result.0 ≡ self.first.clock) × (result.1 ≡ self.second.clock)
-            × (result.2 ≡ self.third.clock) × (result.3 ≡ self.fourth.clock) }
+    /// What they may turn together, and their clocks.
+    pub(crate) fn into_parts(self) -> (Turner<L>, (C, C, C, C))
+        ensures turner { result.0 ≡ turns_by self }
+        ensures clocks { (result.1.0 ≡ self.first.clock) × (result.1.1 ≡ self.second.clock)
+            × (result.1.2 ≡ self.third.clock) × (result.1.3 ≡ self.fourth.clock) }
     {
         let SendingLanes {
             first,
@@ -96,7 +98,10 @@ impl<C: Clock, L: Rates> SendingLanes<C, L> {
             third,
             fourth,
         } = self;
-        (first.clock, second.clock, third.clock, fourth.clock)
+        let last = third.turner.and(fourth.turner);
+        let turner = first.turner.and(second.turner.and(last));
+        let clocks = (first.clock, second.clock, third.clock, fourth.clock);
+        (turner, clocks)
     }
 }
 

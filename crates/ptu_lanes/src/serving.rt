@@ -9,7 +9,7 @@ ghost use Rattle.ptu_lanes.specs.{Crew.{turns_by}, Ended.{HasEnded}, Served.{Tab
 
 use crate::changing::capacity_at_end;
 use crate::crew::{Done, call_all};
-use crate::lanes::{Lanes, SendingLanes};
+use crate::lanes::Lanes;
 use crate::service::Base;
 use ptu_admit::Closed;
 use ptu_config::GmSettings;
@@ -108,16 +108,8 @@ fn close<P: Port + Send, C: Clock, L: Rates, G: Ledger, R: Ledger>(
         event,
         sending,
     } = lanes;
-    let SendingLanes {
-        first,
-        second,
-        third,
-        fourth,
-    } = sending;
     seats.push(control.seat)?;
-    let turner = first
-        .turner
-        .and(second.turner.and(third.turner.and(fourth.turner)));
+    let (turner, (c2, c3, c4, c5)) = sending.into_parts();
     let Ok((closed, tallies)) = shared.close_with_tallies(seats, turner) else {
         unreachable!()
     };
@@ -141,10 +133,10 @@ fn close<P: Port + Send, C: Clock, L: Rates, G: Ledger, R: Ledger>(
         p5: event.port,
         c0: control.clock,
         c1: event.clock,
-        c2: first.clock,
-        c3: second.clock,
-        c4: third.clock,
-        c5: fourth.clock,
+        c2,
+        c3,
+        c4,
+        c5,
     };
     Ok((back, totals))
 }

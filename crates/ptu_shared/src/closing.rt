@@ -212,8 +212,8 @@ impl<P: Port + Send, L: Rates, G: Ledger, R: Ledger> Shared<P, L, G, R> {
     }
 
     /// Closes the tables as `close` does, and tells what their ports were sent, how many of their
-    /// sends failed, and the capacity in force. The tables were turned as often as is known of those
-    /// that this one may turn.
+    /// sends failed, and the capacity in force. The tables were turned as often as the turner knows
+    /// of those that it may turn.
     ///
     /// # Errors
     /// A `CloseFault` exactly where the seats' sums differ from the book's two counts. All seats

@@ -8,8 +8,8 @@ use std::marker::Brand;
 use std::sync::ledger::{self, Ledger, Share};
 
 /// The ledger of rates, which has four parts, one for each table. It names three numbers more,
-/// whose messages the tables send, what their ports were like, and the ledgers of their turns, which
-/// contracts alone see.
+/// whose messages the tables send, what their ports were like, and the ledgers of their turns.
+/// Contracts alone see these.
 pub trait Rates: Ledger {
     /// The capacity that is in force at first, in sixteenths of a message per second.
     ghost opening: { ℕ };

@@ -49,9 +49,9 @@ impl<P: Port + Send, L: Rates, G: Ledger, R: Ledger> Shared<P, L, G, R> {
     /// and all seats from which asks are counted.
     ///
     /// The blanks become the ledgers: that of rates has four parts, and those of granted and
-    /// refused asks have one for each seat. A caller makes the `Blanks` and calls a function that is
-    /// generic over the ledgers, with `Brand` for each, which opens those of turns; whatever holds
-    /// a share lives inside that call.
+    /// refused asks have one for each seat. A caller makes the `Blanks` and calls a function that
+    /// is generic over the ledgers, with `Brand` for each, which opens those of turns; whatever
+    /// holds a share lives inside that call.
     ///
     /// # Errors
     /// `OutOfMemory`, with the ports and the blanks dropped.

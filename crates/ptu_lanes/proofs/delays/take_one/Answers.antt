@@ -1,4 +1,4 @@
-use Rattle.std.proofs.Common.{◌≡◌, take, refl, sym, subst, arith, inl}
+use Rattle.std.proofs.Common.{take, sym, subst, arith}
 use Rattle.ptu_outside.specs.declared.arrival.Arrival.{Arrival}
 use Rattle.ptu_outside.proofs.HandsOver.{just_once}
 use Rattle.ptu_shared.specs.Opening.{HaveFailed}

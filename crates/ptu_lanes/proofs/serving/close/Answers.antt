@@ -1,8 +1,7 @@
 use Rattle.std.proofs.Common.{◌≡◌, ◌∙◌, ap, arith, length, subst}
 use Rattle.std.proofs.lemmas.Bool.{false≢true}
 use Rattle.std.specs.Prelude.{IfSome}
-use Rattle.ptu_shared.specs.Turning.{Turns, both_turns, turns_in}
-use Rattle.ptu_lanes.specs.Crew.{turns_by}
+use Rattle.ptu_shared.specs.Turning.{Turns, turns_in}
 use Rattle.ptu_lanes.proofs.serving.close.Goals as goal
 
 pub returns-clause-tables : goal.returns-clause-tables
@@ -24,8 +23,7 @@ returns-clause-tables g c =
 pub returns-clause-sent : goal.returns-clause-sent
 returns-clause-sent g c =
     let sends = c.in-Ok.ensures.lawful in
-    let lanes = c.args.lanes.sending in
-    let turner : c.and-turner.result ≡ turns_by lanes = c.and-turner.ensures ∙ ap (both_turns lanes.first.turner) (c.and-2.ensures ∙ ap (both_turns lanes.second.turner) c.and.ensures) in (
+    let turner = c.into_parts-turner.ensures.turner in (
       record { p0 = sends.0.0; p1 = sends.1.0; p2 = sends.2.0; p3 = sends.3.0 },
       omega (arith, c.sent_by.ensures, sends.0.1, sends.1.1, sends.2.1, sends.3.1),
       subst (λ (t : Turns). IfSome t.t0 (λ n. turns_in sends.0.0.parts ≡ n)) turner sends.0.2,

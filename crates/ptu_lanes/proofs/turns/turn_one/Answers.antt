@@ -1,4 +1,4 @@
-use Rattle.std.proofs.Common.{◌≡◌, ◌∙◌, sym}
+use Rattle.std.proofs.Common.{◌∙◌, sym}
 use Rattle.ptu_lanes.proofs.Moments.{passed_none, passed_one, without_turn}
 use Rattle.ptu_lanes.proofs.turns.turn_one.Goals as goal
 

@@ -1,4 +1,4 @@
-use Rattle.std.proofs.Common.{◌≡◌, ◌+◌, arith}
+use Rattle.std.proofs.Common.{◌+◌, arith}
 use Rattle.ptu_lanes.specs.Waiting.{PassedBy, one_right}
 use Rattle.ptu_lanes.proofs.Moments.{passed-append, passed_as}
 use Rattle.ptu_lanes.proofs.turns.turn_round.Goals as goal

@@ -1,4 +1,4 @@
-use Rattle.std.proofs.Common.{◌≡◌, refl}
+use Rattle.std.proofs.Common.{refl}
 use Rattle.ptu_lanes.specs.Stretches.{SendingLaneDid}
 use Rattle.ptu_lanes.proofs.Outcomes.{came_left}
 use Rattle.ptu_lanes.proofs.crew.Crew.left_sending.Goals as goal

@@ -1,4 +1,4 @@
-use Rattle.std.proofs.Common.{◌≡◌, refl}
+use Rattle.std.proofs.Common.{refl}
 use Rattle.ptu_lanes.proofs.Moments.{turned_idle}
 use Rattle.ptu_lanes.proofs.crew.Crew.start_sending.Goals as goal
 

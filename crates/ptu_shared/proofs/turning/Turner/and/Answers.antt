@@ -1,4 +1,4 @@
-use Rattle.std.proofs.Common.{◌≡◌, refl}
+use Rattle.std.proofs.Common.{refl}
 use Rattle.ptu_shared.proofs.Rights.{option_map-or}
 use Rattle.ptu_shared.proofs.turning.Turner.and.Goals as goal
 
