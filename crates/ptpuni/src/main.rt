@@ -16,8 +16,8 @@ ghost use Rattle.ptu_judges.specs.Boxes.{IsFreshStock};
 ghost use Rattle.ptu_judges.specs.Held.{IsStock, fresh};
 
 use ptu_judges::{FlagJudge, GapJudge, Judge, NAMED_GAP, Rule, Stock};
-use ptu_outside::{Host, StdSink, StdSource};
-use ptu_run::{OUT_OF_MEMORY, USAGE, USAGE_TEXT, run, run_in_blocks, texts_of, waits_for_lines};
+use ptu_outside::Host;
+use ptu_run::{BLOCK, OUT_OF_MEMORY, USAGE, USAGE_TEXT, run_in_blocks, texts_of, waits_for_lines};
 use ptu_udp::UdpHost;
 use std::alloc::AllocError;
 use std::env::Env;
@@ -70,13 +70,12 @@ where
     let Ok(texts) = texts_of(rt.alloc(), words) else {
         return OUT_OF_MEMORY;
     };
-    if waits_for_lines(output.is_terminal(), &texts) {
-        let mut source = StdSource::new(input);
-        let mut sink = StdSink::new(output);
-        run(rt, &texts, &mut source, &mut sink, host, stock)
+    let block = if waits_for_lines(output.is_terminal(), &texts) {
+        0
     } else {
-        run_in_blocks(rt, &texts, input, output, host, stock)
-    }
+        BLOCK
+    };
+    run_in_blocks(rt, &texts, block, input, output, host, stock)
 }
 
 // Puts a judge of each rule into the stock.

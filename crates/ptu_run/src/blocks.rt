@@ -13,15 +13,17 @@ use std::io::{BufWriter, Read, Write};
 use std::sync::Wait;
 use std::thread::Threads;
 
-// So many octets of output are handed on at once.
-const BLOCK: usize = 65536;
+/// So many octets of output are handed on at once where nobody waits for lines.
+pub const BLOCK: usize = 65536;
 
-/// Does what `run` does, over this reader and this writer, which gets the output in blocks of 65536
-/// octets. What the run leaves in the last block is handed on whatever the run came to; where the
-/// writer does not take it the status is that of a sink that failed.
+/// Does what `run` does, over this reader and this writer, which gets the output in blocks of this
+/// many octets, or each line as it is written where that is 0. What the run leaves in the last
+/// block is handed on whatever the run came to; where the writer does not take it the status is
+/// that of a sink that failed.
 pub fn run_in_blocks<W, I, O, H>(
     rt: &W,
     words: &[&str],
+    block: usize,
     input: I,
     output: O,
     host: &mut H,
@@ -37,7 +39,7 @@ where
     // 64 is answered only where the command line does not match the words.
     ensures usage { result ≡ USAGE → AreWordsRefused (map (λ w. w.now) words.now) }
 {
-    let Ok(mut blocks) = BufWriter::with_capacity(rt.alloc(), BLOCK, output) else {
+    let Ok(mut blocks) = BufWriter::with_capacity(rt.alloc(), block, output) else {
         return OUT_OF_MEMORY;
     };
     let mut source = StdSource::new(input);

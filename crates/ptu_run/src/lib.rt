@@ -11,7 +11,7 @@ mod running;
 mod status;
 mod words;
 
-pub use blocks::run_in_blocks;
+pub use blocks::{BLOCK, run_in_blocks};
 pub use command::Command;
 pub use laws::{matched_words, sample_words};
 pub use reading::read_words;
