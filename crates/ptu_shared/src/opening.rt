@@ -12,26 +12,26 @@ use std::sync::ledger::{Blank, Share};
 /// What becomes the ledgers of turns, one for each table.
 #[derive(Drop)]
 pub struct TurnBlanks {
-    /// That of table 0.
+    /// What becomes the ledger of turns of table 0.
     pub t0: Blank,
-    /// That of table 1.
+    /// What becomes the ledger of turns of table 1.
     pub t1: Blank,
-    /// That of table 2.
+    /// What becomes the ledger of turns of table 2.
     pub t2: Blank,
-    /// That of table 3.
+    /// What becomes the ledger of turns of table 3.
     pub t3: Blank,
 }
 
 /// What becomes the ledgers of shared tables.
 #[derive(Drop)]
 pub struct Blanks {
-    /// The ledger of rates, with a part for each table.
+    /// What becomes the ledger of rates, with a part for each table.
     pub rates: Blank,
-    /// That of granted asks, with a part for each seat.
+    /// What becomes the ledger of granted asks, with a part for each seat.
     pub granted: Blank,
-    /// That of refused asks, with a part for each seat.
+    /// What becomes the ledger of refused asks, with a part for each seat.
     pub refused: Blank,
-    /// The ledgers of turns.
+    /// What becomes the ledgers of turns.
     pub turns: TurnBlanks,
 }
 
@@ -49,9 +49,9 @@ pub(crate) struct Unturned<L: Rates, J: Place> {
 pub struct Ledgers<L: Rates> {
     /// What becomes the ledger of rates.
     pub rates: Blank,
-    /// What becomes that of granted asks.
+    /// What becomes the ledger of granted asks.
     pub granted: Blank,
-    /// What becomes that of refused asks.
+    /// What becomes the ledger of refused asks.
     pub refused: Blank,
     pub(crate) t0: Unturned<L, First>,
     pub(crate) t1: Unturned<L, Second>,
@@ -70,7 +70,7 @@ fn open_turns<L: Rates, J: Place>(blank: Blank) -> (TurnBook<L, J>, Unturned<L, 
 }
 
 impl Blanks {
-    /// Those of tables with so many seats.
+    /// The blanks of tables with so many seats.
     pub fn of_seats(seats: usize) -> Blanks
         ensures parts { (result.rates.parts ≡ 4) × (result.granted.parts ≡ seats)
             × (result.refused.parts ≡ seats) }
@@ -132,12 +132,12 @@ impl Blanks {
 /// The ports by which the messages of the four tables go.
 #[derive(Drop)]
 pub struct TablePorts<P: Port> {
-    /// That of table 0.
+    /// The port of table 0.
     pub p0: P,
-    /// That of table 1.
+    /// The port of table 1.
     pub p1: P,
-    /// That of table 2.
+    /// The port of table 2.
     pub p2: P,
-    /// That of table 3.
+    /// The port of table 3.
     pub p3: P,
 }

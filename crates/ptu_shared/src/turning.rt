@@ -64,13 +64,13 @@ impl<L: Rates> Model for Turner<L> {
 /// The rights of four lanes.
 #[derive(Drop)]
 pub struct Turners<L: Rates> {
-    /// Those of lane 0.
+    /// The rights of lane 0.
     pub first: Turner<L>,
-    /// Those of lane 1.
+    /// The rights of lane 1.
     pub second: Turner<L>,
-    /// Those of lane 2.
+    /// The rights of lane 2.
     pub third: Turner<L>,
-    /// Those of lane 3.
+    /// The rights of lane 3.
     pub fourth: Turner<L>,
 }
 
