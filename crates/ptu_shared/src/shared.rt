@@ -17,7 +17,7 @@ use crate::rates::Rates;
 use crate::seat::Seat;
 use crate::table::Table;
 use crate::turning::{TurnBook, Turner};
-use ptu_admit::{Cancelled, Resized, Verdict};
+use ptu_admit::{Cancelled, InForce, Resized, Verdict};
 use ptu_history::{Client, table_of};
 use ptu_messages::{Ask, Header};
 use ptu_outside::Port;
@@ -237,7 +237,7 @@ impl<P: Port + Send, L: Rates, G: Ledger, R: Ledger> Shared<P, L, G, R> {
         &self,
         rt: &impl Wait,
         t: Moment,
-        capacity: Capacity,
+        capacity: InForce,
     ) -> Result<Resized, OutOfMemory>
         requires ledger { L.parts ≡ 4 }
         requires most { capacity ≤ L.most }
