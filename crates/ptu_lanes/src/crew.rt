@@ -12,11 +12,11 @@ ghost use Rattle.ptu_lanes.specs.Stretches.{EventLaneDid, HaveTurned, SendingLan
 
 use crate::calls::{Call, Called, EventCall, EventWork, SendingCall, SendingCalls, SendingWork};
 use crate::changing::rounds_before_change;
-use crate::lanes::{ControlLane, EventLane, Lanes, Rounds, SendingLane, SendingLanes, Tally};
+use crate::lanes::{ControlLane, EventLane, Lanes, Rounds, SendingLane, SendingLanes};
 use crate::service::{Base, Service};
 use ptu_config::GmSettings;
 use ptu_outside::{Clock, Meeting, Opened, Port};
-use ptu_shared::{Blanks, Ledgers, Rates, Seat, Shared, TablePorts, Turners};
+use ptu_shared::{Blanks, Ledgers, PortTally, Rates, Seat, Shared, TablePorts, Turners};
 use ptu_units::OutOfMemory;
 use std::snapshot::Snapshot;
 use std::sync::ledger::Ledger;
@@ -401,7 +401,7 @@ where
             seat,
             port: opened.p4,
             clock: opened.c0,
-            tally: Tally::default(),
+            tally: PortTally::none(),
         };
         let control = self.call_control(settings, control).served()?;
         let event = event.called(self.base.rt).served()?;

@@ -11,31 +11,10 @@ use crate::service::Service;
 use crate::signaling::control_round;
 use crate::turns::turn_round;
 use ptu_outside::{Clock, Meeting, Port};
-use ptu_shared::{Rates, Seat, Turner};
+use ptu_shared::{PortTally, Rates, Seat, Turner};
 use ptu_units::{Moment, OutOfMemory};
 use std::sync::Wait;
 use std::sync::ledger::Ledger;
-
-/// How many datagrams were sent, and how many calls of the lane's own port failed. A number that
-/// would be above its type's end stands there.
-#[derive(Clone, Copy, Default)]
-pub(crate) struct Tally {
-    pub sent: u128,
-    pub failed: u64,
-}
-
-impl Tally {
-    /// The tally with so many more.
-    pub(crate) fn plus(self, sent: u64, failed: u64) -> Tally
-        ensures sent { result.sent ≡ min (self.sent + sent) (2 ^ 128 - 1) }
-        ensures failed { result.failed ≡ min (self.failed + failed) (2 ^ 64 - 1) }
-    {
-        Tally {
-            sent: self.sent.saturating_add(u128::from(sent)),
-            failed: self.failed.saturating_add(failed),
-        }
-    }
-}
 
 /// The lane that takes Signaling.
 #[derive(Drop)]
@@ -43,7 +22,7 @@ pub(crate) struct ControlLane<P: Port, C: Clock, G: Ledger, R: Ledger> {
     pub seat: Seat<G, R>,
     pub port: P,
     pub clock: C,
-    pub tally: Tally,
+    pub tally: PortTally,
 }
 
 /// The lane that takes Delay_Reqs, and how many of its receives failed. What the tables' ports are

@@ -1,27 +1,28 @@
-//! What a table's port was sent, and how many of its sends failed.
+//! What a port was sent, and how many of its calls failed.
 
 ghost use Rattle.std.specs.Prelude.{◌≡◌, ◌+◌, ◌-◌, ◌^◌, min};
 
-/// How many datagrams a port was sent, and how many of its sends failed. A number that would be
-/// above its type's end stands there.
+/// How many datagrams a port was sent, and how many of its calls failed: of the port of a table its
+/// sends, of that of a lane its sends and receives. A number that would be above its type's end
+/// stands there.
 #[derive(Clone, Copy)]
 pub struct PortTally {
     /// How many datagrams it was sent.
     pub sent: u128,
-    /// How many sends failed.
+    /// How many calls failed.
     pub failed: u64,
 }
 
 impl PortTally {
-    // Nothing was sent.
-    pub(crate) fn none() -> PortTally
-        ensures { (result.sent ≡ 0) × (result.failed ≡ 0) }
+    /// Nothing was sent, and no call failed.
+    pub fn none() -> PortTally
+        ensures { result ≡ record { sent = 0; failed = 0 } }
     {
         PortTally { sent: 0, failed: 0 }
     }
 
-    // The tally with so many more.
-    pub(crate) fn plus(self, sent: u64, failed: u64) -> PortTally
+    /// The tally with so many more.
+    pub fn plus(self, sent: u64, failed: u64) -> PortTally
         ensures sent { result.sent ≡ min (self.sent + sent) (2 ^ 128 - 1) }
         ensures failed { result.failed ≡ min (self.failed + failed) (2 ^ 64 - 1) }
     {
