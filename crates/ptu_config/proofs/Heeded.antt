@@ -5,7 +5,7 @@ use Rattle.std.proofs.Math.Seq.{drop-append_seam, take-append_seam}
 use Rattle.std.proofs.lemmas.{Bool.{eqb-true, eq-eqb}, List.{take-append-drop}, Slice.Eq.{bytes_eq-Decides}}
 use Rattle.ptu_lines.specs.{Script.{is_plain}, Words.{clock_of}}
 use Rattle.ptu_config.specs.declared.{command.Command.{Command}, command.Cause.{Cause}}
-use Rattle.ptu_config.specs.Commands.{commanded, has_key, is_ended, line_of, order_asked, word_or_empty}
+use Rattle.ptu_config.specs.Commands.{commanded, has_key, is_ended, request_line, order_asked, word_or_empty}
 
 had : (key : ℕ) (found : Option ℕ) → has_key key found ≡ true → found ≡ Some key
 had key None is = cc
@@ -25,15 +25,15 @@ both true key found asked some = (refl, by (has_key key found) refl some)
     by false is some' = cc
 
 pub heeded : (key : ℕ) (octets : List ℕ) → IsSome (order_asked key octets) ↔
-    ((list_all is_plain (line_of octets) ≡ true) × (clock_of (word_or_empty (line_of octets) 1) ≡ Some key))
+    ((list_all is_plain (request_line octets) ≡ true) × (clock_of (word_or_empty (request_line octets) 1) ≡ Some key))
 unfolding order_asked
 heeded key octets = (
-  both (list_all is_plain (line_of octets)) key (clock_of (word_or_empty (line_of octets) 1)) (commanded (line_of octets)),
-  λ h. rw (h.0, has key (clock_of (word_or_empty (line_of octets) 1)) h.1) refl,
+  both (list_all is_plain (request_line octets)) key (clock_of (word_or_empty (request_line octets) 1)) (commanded (request_line octets)),
+  λ h. rw (h.0, has key (clock_of (word_or_empty (request_line octets) 1)) h.1) refl,
 )
 
 -- a newline at the end is cut off
-without_newline : (line : List ℕ) → line_of (line ++ 10 ∷ []) ≡ line
+without_newline : (line : List ℕ) → request_line (line ++ 10 ∷ []) ≡ line
 without_newline line =
     let before : length (line ++ 10 ∷ []) - 1 ≡ length line = omega (arith, length-append line (10 ∷ [])) in
     rw (before, drop-append_seam line (10 ∷ [])) (take-append_seam line (10 ∷ []))
@@ -47,7 +47,7 @@ no_newline (octet ∷ rest) plain = no_newline rest (by (is_plain octet) plain)
     by false all = cc
 
 -- plain text has none
-as_it_is : (line : List ℕ) → list_all is_plain line ≡ true → line_of line ≡ line
+as_it_is : (line : List ℕ) → list_all is_plain line ≡ true → request_line line ≡ line
 as_it_is line plain = by (is_ended line) refl
   where
     by : (test : Bool) → is_ended line ≡ test → (if test then take (length line - 1) line else line) ≡ line

@@ -5,7 +5,7 @@ ghost use Rattle.std.specs.Prelude.{◌≡◌, ◌↔◌, ◌++◌, ◌∷◌, [
 ghost use Rattle.std.specs.List.{list_all};
 ghost use Rattle.ptu_lines.specs.{Script.{is_plain}, Words.{clock_of}};
 ghost use Rattle.ptu_config.specs.Answers.{reply_text};
-ghost use Rattle.ptu_config.specs.Commands.{order_asked, is_stop_order, line_of, word_or_empty};
+ghost use Rattle.ptu_config.specs.Commands.{order_asked, is_stop_order, request_line, word_or_empty};
 ghost use Rattle.ptu_config.specs.declared.command.Command.{Command};
 ghost use Rattle.ptu_config.specs.declared.command.Cause.{Cause};
 ghost use Rattle.ptu_config.specs.declared.answer.Reply.{Reply};
@@ -14,8 +14,8 @@ ghost use Rattle.ptu_config.specs.declared.answer.Reply.{Reply};
 /// other key, or none, a datagram asks nothing.
 pub fn keys()
     ensures heeded { (key : ℕ) (octets : List ℕ) → IsSome (order_asked key octets) ↔
-        ((list_all is_plain (line_of octets) ≡ true)
-        × (clock_of (word_or_empty (line_of octets) 1) ≡ Some key)) }
+        ((list_all is_plain (request_line octets) ≡ true)
+        × (clock_of (word_or_empty (request_line octets) 1) ≡ Some key)) }
     // A newline at the end of a line is no part of it.
     ensures ended { (key : ℕ) (line : List ℕ) → list_all is_plain line ≡ true →
         order_asked key (line ++ 10 ∷ []) ≡ order_asked key line }
