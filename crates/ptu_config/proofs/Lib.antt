@@ -6,5 +6,6 @@ pub mod EachMaster
 pub mod Readings
 pub mod KeyNames
 pub mod Controls
+mod Heeded
 mod Taking
 mod Answering

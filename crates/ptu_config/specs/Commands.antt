@@ -12,8 +12,8 @@ abbrev pub is_ended : List ℕ → Bool
 is_ended octets = bytes_eq (drop (length octets - 1) octets) (10 ∷ [])
 
 -- the octets without it
-abbrev pub line_of : List ℕ → List ℕ
-line_of octets = if is_ended octets then take (length octets - 1) octets else octets
+abbrev pub request_line : List ℕ → List ℕ
+request_line octets = if is_ended octets then take (length octets - 1) octets else octets
 
 -- the word of this number, from 1, or the empty one where there is none
 abbrev pub word_or_empty : List ℕ → ℕ → List ℕ
@@ -56,7 +56,7 @@ is_known key line =
 -- line of plain text, or begin with another key
 unfoldable pub order_asked : ℕ → List ℕ → Option (Result Command Cause)
 order_asked key octets =
-    if is_known key (line_of octets) then Some (commanded (line_of octets)) else None
+    if is_known key (request_line octets) then Some (commanded (request_line octets)) else None
 
 -- they ask it to stop
 abbrev pub is_stop_order : Option (Result Command Cause) → Bool

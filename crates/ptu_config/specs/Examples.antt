@@ -46,6 +46,14 @@ gm_defaults = repeated 1 1
 abbrev pub gm_with : List ℕ → Data → Members
 gm_with name value = member name value (gm_document (pos 8))
 
+-- that document with a control port and this key
+abbrev pub gm_spoken_to : Data → Data → Members
+gm_spoken_to port key = member (codes "control_key") key (gm_with (codes "control_port") port)
+
+-- a key of commands
+abbrev pub sample_key : Data
+sample_key = string (codes "0a00000000000002")
+
 -- the table of a master with this address, and its judge
 abbrev pub master_table : List ℕ → List ℕ → Data
 master_table ip judge =

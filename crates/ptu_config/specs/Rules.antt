@@ -122,7 +122,8 @@ unlike document keys (Some (number n)) =
 unlike document keys _ = None
 
 -- what a document with this value at a setting's key says of it: nothing at all where it is
--- required and not there, of another type or out of range
+-- required and not there, of another type or out of range, or the number of a setting that it has to
+-- be other than
 abbrev pub read_by : Rule → Members → Option Data → Option Value
 read_by (required form) document found = given (value_of form) None found
 read_by (optional form otherwise) document found = given (value_of form) (Some otherwise) found

@@ -1,48 +1,156 @@
-//! Datagrams of a control port, and what they ask; answers, and their texts. Each clause computes;
-//! the bodies are empty.
+//! What datagrams of a control port ask, for any key and by example, and texts of answers. Each
+//! clause is a law or computes; the bodies are empty.
 
-ghost use Rattle.std.specs.Prelude.{◌≡◌, ◌++◌, ◌∷◌, [], codes, true, false, Some, None, Ok, Err};
-ghost use Rattle.ptu_config.specs.{Commands.{order_asked}, Answers.{reply_text}};
+ghost use Rattle.std.specs.Prelude.{◌≡◌, ◌↔◌, ◌++◌, ◌∷◌, [], ℕ, List, codes, true, false, Some, None, Ok, Err, IsSome};
+ghost use Rattle.std.specs.List.{list_all};
+ghost use Rattle.ptu_lines.specs.{Script.{is_plain}, Words.{clock_of}};
+ghost use Rattle.ptu_config.specs.Answers.{reply_text};
+ghost use Rattle.ptu_config.specs.Commands.{order_asked, is_stop_order, request_line, word_or_empty};
 ghost use Rattle.ptu_config.specs.declared.command.Command.{Command};
 ghost use Rattle.ptu_config.specs.declared.command.Cause.{Cause};
+ghost use Rattle.ptu_config.specs.declared.answer.Reply.{Reply};
+
+/// Whom a grandmaster heeds: who sends it a line of plain text that begins with its key. With any
+/// other key, or none, a datagram asks nothing.
+pub fn keys()
+    ensures heeded { (key : ℕ) (octets : List ℕ) → IsSome (order_asked key octets) ↔
+        ((list_all is_plain (request_line octets) ≡ true)
+        × (clock_of (word_or_empty (request_line octets) 1) ≡ Some key)) }
+    // A newline at the end of a line is no part of it.
+    ensures ended { (key : ℕ) (line : List ℕ) → list_all is_plain line ≡ true →
+        order_asked key (line ++ 10 ∷ []) ≡ order_asked key line }
+{}
 
 /// What datagrams ask a grandmaster with the key 0a00000000000001.
 #[tactic(auto, unfolding(crate::specs::Commands::order_asked))]
 pub fn commands()
     ensures class { order_asked 720575940379279361 (codes "0a00000000000001 class 110")
         ≡ Some (Ok (Command.Class 110)) }
+    ensures least_class { order_asked 720575940379279361 (codes "0a00000000000001 class 0")
+        ≡ Some (Ok (Command.Class 0)) }
+    ensures greatest_class { order_asked 720575940379279361 (codes "0a00000000000001 class 255")
+        ≡ Some (Ok (Command.Class 255)) }
     ensures ended { order_asked 720575940379279361 (codes "0A00000000000001 capacity 640\n")
         ≡ Some (Ok (Command.Capacity 640)) }
+    ensures least { order_asked 720575940379279361 (codes "0a00000000000001 capacity 1")
+        ≡ Some (Ok (Command.Capacity 1)) }
+    ensures greatest { order_asked 720575940379279361
+        (codes "0a00000000000001 capacity 16777216") ≡ Some (Ok (Command.Capacity 16777216)) }
     ensures status { order_asked 720575940379279361 (codes "0a00000000000001 status\n")
         ≡ Some (Ok Command.Status) }
     ensures stop { order_asked 720575940379279361 (codes "0a00000000000001 stop")
         ≡ Some (Ok (Command.Stop false)) }
     ensures stop_cancel { order_asked 720575940379279361 (codes "0a00000000000001 stop cancel")
         ≡ Some (Ok (Command.Stop true)) }
+    // A key of zeros is one as any other.
+    ensures zeros { order_asked 0 (codes "0000000000000000 status") ≡ Some (Ok Command.Status) }
 {}
 
-/// What is no command of it: another key or none, octets that are no line, and lines of other
-/// words.
+/// What asks it nothing at all: another key, a key of another form or none, and octets that are no
+/// line of plain text.
 #[tactic(auto, unfolding(crate::specs::Commands::order_asked))]
-pub fn no_commands()
+pub fn no_lines()
     ensures other_key { order_asked 720575940379279361 (codes "0a00000000000002 status") ≡ None }
     ensures no_key { order_asked 720575940379279361 (codes "status") ≡ None }
     ensures short_key { order_asked 720575940379279361 (codes "a00000000000001 status") ≡ None }
+    ensures long_key { order_asked 720575940379279361 (codes "00a00000000000001 status") ≡ None }
+    ensures no_digit { order_asked 720575940379279361 (codes "0a0000000000000g status") ≡ None }
+    ensures space_before { order_asked 720575940379279361 (codes " 0a00000000000001 status")
+        ≡ None }
     ensures empty { order_asked 720575940379279361 [] ≡ None }
-    ensures two_lines { order_asked 720575940379279361 (codes "0a00000000000001 status\n\n") ≡ None }
-    ensures no_text { order_asked 720575940379279361 (codes "0a00000000000001 stop" ++ 0 ∷ []) ≡ None }
+    ensures no_zeros { order_asked 0 [] ≡ None }
+    ensures newline_alone { order_asked 0 (codes "\n") ≡ None }
+    ensures short_zeros { order_asked 0 (codes "0 status") ≡ None }
+    ensures two_lines { order_asked 720575940379279361 (codes "0a00000000000001 status\n\n")
+        ≡ None }
+    ensures carriage_return { order_asked 720575940379279361
+        (codes "0a00000000000001 status" ++ 13 ∷ 10 ∷ []) ≡ None }
+    ensures no_text { order_asked 720575940379279361
+        (codes "0a00000000000001 stop" ++ 0 ∷ []) ≡ None }
+    ensures tab { order_asked 720575940379279361
+        (codes "0a00000000000001 stop " ++ 0x1F ∷ []) ≡ None }
+    ensures delete { order_asked 720575940379279361
+        (codes "0a00000000000001 stop " ++ 0x7F ∷ []) ≡ None }
+{}
+
+/// What lines with its key are answered by a cause: other words, too few of them or too many, and
+/// numbers out of their range or of another form.
+#[tactic(auto, unfolding(crate::specs::Commands::order_asked))]
+pub fn no_commands()
     ensures key_alone { order_asked 720575940379279361 (codes "0a00000000000001")
         ≡ Some (Err Cause.Words) }
     ensures spaces { order_asked 720575940379279361 (codes "0a00000000000001  status")
         ≡ Some (Err Cause.Words) }
+    ensures space_behind { order_asked 720575940379279361 (codes "0a00000000000001 status ")
+        ≡ Some (Err Cause.Words) }
+    ensures capitals { order_asked 720575940379279361 (codes "0a00000000000001 STATUS")
+        ≡ Some (Err Cause.Words) }
+    ensures greatest_text { order_asked 720575940379279361 (codes "0a00000000000001 stop ~")
+        ≡ Some (Err Cause.Words) }
     ensures more { order_asked 720575940379279361 (codes "0a00000000000001 stop now")
         ≡ Some (Err Cause.Words) }
-    ensures no_value { order_asked 720575940379279361 (codes "0a00000000000001 class")
+    ensures more_behind { order_asked 720575940379279361
+        (codes "0a00000000000001 stop cancel now") ≡ Some (Err Cause.Words) }
+    ensures no_class { order_asked 720575940379279361 (codes "0a00000000000001 class")
         ≡ Some (Err Cause.Words) }
+    ensures two_classes { order_asked 720575940379279361 (codes "0a00000000000001 class 84 110")
+        ≡ Some (Err Cause.Words) }
+    ensures no_capacity { order_asked 720575940379279361 (codes "0a00000000000001 capacity")
+        ≡ Some (Err Cause.Words) }
+    ensures two_capacities { order_asked 720575940379279361
+        (codes "0a00000000000001 capacity 1 2") ≡ Some (Err Cause.Words) }
     ensures class_range { order_asked 720575940379279361 (codes "0a00000000000001 class 256")
+        ≡ Some (Err Cause.Class) }
+    ensures empty_class { order_asked 720575940379279361 (codes "0a00000000000001 class ")
+        ≡ Some (Err Cause.Class) }
+    ensures signed_class { order_asked 720575940379279361 (codes "0a00000000000001 class -1")
         ≡ Some (Err Cause.Class) }
     ensures capacity_range { order_asked 720575940379279361 (codes "0a00000000000001 capacity 0")
         ≡ Some (Err Cause.Capacity) }
+    ensures capacity_above { order_asked 720575940379279361
+        (codes "0a00000000000001 capacity 16777217") ≡ Some (Err Cause.Capacity) }
     ensures leading_zero { order_asked 720575940379279361 (codes "0a00000000000001 capacity 064")
         ≡ Some (Err Cause.Capacity) }
+{}
+
+/// Which datagrams ask it to stop.
+#[tactic(auto, unfolding(crate::specs::Commands::order_asked))]
+pub fn stops()
+    ensures stop { is_stop_order (order_asked 720575940379279361
+        (codes "0a00000000000001 stop")) ≡ true }
+    ensures stop_cancel { is_stop_order (order_asked 720575940379279361
+        (codes "0a00000000000001 stop cancel")) ≡ true }
+    ensures other_key { is_stop_order (order_asked 720575940379279361
+        (codes "0a00000000000002 stop")) ≡ false }
+    ensures no_command { is_stop_order (order_asked 720575940379279361
+        (codes "0a00000000000001 stop now")) ≡ false }
+    ensures status { is_stop_order (order_asked 720575940379279361
+        (codes "0a00000000000001 status")) ≡ false }
+{}
+
+/// The texts of answers, one of each kind, and each cause.
+pub fn answers()
+    ensures done { reply_text Reply.Done ≡ codes "ok\n" }
+    ensures shed { reply_text (Reply.Shed 12) ≡ codes "ok\nshed 12\n" }
+    ensures none_shed { reply_text (Reply.Shed 0) ≡ codes "ok\nshed 0\n" }
+    ensures words { reply_text (Reply.Bad Cause.Words) ≡ codes "bad words\n" }
+    ensures class { reply_text (Reply.Bad Cause.Class) ≡ codes "bad class\n" }
+    ensures capacity { reply_text (Reply.Bad Cause.Capacity) ≡ codes "bad capacity\n" }
+    ensures status { reply_text (Reply.Stands (record {
+      class = 84;
+      capacity = 640;
+      held = 520;
+      live_announce = 1;
+      live_sync = 2;
+      live_delay_resp = 3;
+      granted = 4;
+      refused = 5;
+      sent = 6;
+      failed = 7;
+      round = 8;
+      moment = 9;
+    })) ≡
+        codes "ok\nclass 84\ncapacity 640\nheld 520\n"
+        ++ (codes "live_announce 1\nlive_sync 2\nlive_delay_resp 3\n"
+        ++ (codes "granted 4\nrefused 5\nsent 6\nfailed 7\n" ++ codes "round 8\nmoment 9\n")) }
 {}

@@ -3,7 +3,7 @@
 ghost use Rattle.std.specs.Prelude.{◌≡◌, codes};
 ghost use Rattle.std.specs.List.{list_all};
 ghost use Rattle.ptu_lines.specs.Script.{is_plain};
-ghost use Rattle.ptu_config.specs.Commands.{order_asked, commanded_capacity, commanded_class, commanded, is_command_for, is_known, line_of, word_or_empty};
+ghost use Rattle.ptu_config.specs.Commands.{order_asked, commanded_capacity, commanded_class, commanded, is_command_for, is_known, request_line, word_or_empty};
 ghost use Rattle.ptu_lines.specs.Words.{number_within};
 ghost use Rattle.ptu_units.specs.Limits.{least_capacity, greatest_capacity};
 
@@ -12,8 +12,8 @@ use ptu_lines::{WordList, clock, number};
 use ptu_units::Capacity;
 
 // The octets without a newline at their end.
-fn line_of(octets: &[u8]) -> &[u8]
-    ensures { result.now ≡ line_of octets.now }
+fn request_line(octets: &[u8]) -> &[u8]
+    ensures { result.now ≡ request_line octets.now }
 {
     match octets.strip_suffix(&b"\n"[..]) {
         Some(line) => line,
@@ -111,7 +111,7 @@ fn command(words: &WordList) -> Result<Command, Cause>
 pub fn read_command(key: u64, octets: &[u8]) -> Option<Result<Command, Cause>>
     ensures { result ≡ order_asked key octets.now }
 {
-    let line = line_of(octets);
+    let line = request_line(octets);
     let words = WordList::new(line);
     if is_known(key, line, &words) {
         Some(command(&words))

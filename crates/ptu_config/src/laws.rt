@@ -2,7 +2,7 @@
 //! empty.
 ghost use Rattle.std.specs.Prelude.{◌≡◌, ◌<◌, ℕ, true, false, Bool, List, [], ◌∷◌, map, Some, None, IsSome, ℤ, pos, negsuc, codes};
 ghost use Rattle.std.specs.List.{AllByRecursion};
-ghost use Rattle.toml.specs.Data.{Members, integer, string, no_members, array, no_items};
+ghost use Rattle.toml.specs.Data.{Members, get_member, integer, member, string, no_members, array, no_items};
 ghost use Rattle.toml.specs.Parse.{parse_document};
 ghost use Rattle.ptu_config.specs.declared.key.Key.{Key};
 ghost use Rattle.ptu_config.specs.declared.settings.GmSettings.{GmSettings};
@@ -11,7 +11,7 @@ ghost use Rattle.ptu_config.specs.{Forms.{address_in, identity_in}, Masters.{mas
 ghost use Rattle.ptu_config.specs.Rules.{Value, gm_keys, slave_keys, setting_of, number, nothing};
 ghost use Rattle.ptu_config.specs.Documents.{Reads, Says, document_of, refusal_of, table_refusal};
 ghost use Rattle.ptu_config.specs.Entries.{gm_entries, slave_entries};
-ghost use Rattle.ptu_config.specs.Examples.{gm_text, gm_document, gm_defaults, gm_with, repeated, two_masters};
+ghost use Rattle.ptu_config.specs.Examples.{gm_text, gm_document, gm_defaults, gm_spoken_to, gm_with, repeated, sample_key, two_masters};
 ghost use Rattle.ptu_config.specs.Rounds.{all_rounds, all_slave_rounds};
 ghost use Rattle.ptu_config.specs.Samples.{AreRefused, LinesAreWritten};
 
@@ -75,6 +75,58 @@ pub fn settings_of_a_grandmaster()
     ensures repeated_by_a_text { table_refusal gm_keys
         (gm_with (codes "repeat") (string (codes "2"))) ≡ Some (SettingFault.Bad Key.Repeat) }
     ensures no_delay_resp { setting_of no_members Key.LogDelay ≡ Some nothing }
+{}
+
+/// What a document says of the control port and of its key.
+#[tactic(auto, unfolding(crate::specs::Rules::setting_of))]
+pub fn control_of_a_grandmaster()
+    // Without the two keys nothing is said of them, and they refuse nothing.
+    ensures without { (document : Members) →
+        get_member (name_of Key.ControlPort) document ≡ None →
+        get_member (name_of Key.ControlKey) document ≡ None →
+        (setting_of document Key.ControlPort ≡ Some nothing)
+        × (setting_of document Key.ControlKey ≡ Some nothing) }
+    ensures with_both { (table_refusal gm_keys (gm_spoken_to (integer (pos 8319)) sample_key)
+        ≡ None) × (setting_of (gm_spoken_to (integer (pos 8319)) sample_key) Key.ControlPort
+        ≡ Some (number 8319)) × (setting_of (gm_spoken_to (integer (pos 8319)) sample_key)
+        Key.ControlKey ≡ Some (number 720575940379279362)) }
+    ensures no_key { table_refusal gm_keys (gm_with (codes "control_port") (integer (pos 8319)))
+        ≡ Some (SettingFault.Bad Key.ControlKey) }
+    ensures key_alone { (table_refusal gm_keys (gm_with (codes "control_key") sample_key) ≡ None)
+        × (setting_of (gm_with (codes "control_key") sample_key) Key.ControlPort ≡ Some nothing) }
+    ensures no_identity { table_refusal gm_keys
+        (gm_spoken_to (integer (pos 8319)) (string (codes "0a")))
+        ≡ Some (SettingFault.Bad Key.ControlKey) }
+    ensures key_of_a_number { table_refusal gm_keys
+        (gm_with (codes "control_key") (integer (pos 1))) ≡ Some (SettingFault.Bad Key.ControlKey) }
+    ensures port_of_a_text { table_refusal gm_keys
+        (gm_spoken_to (string (codes "8319")) sample_key)
+        ≡ Some (SettingFault.Bad Key.ControlPort) }
+    ensures zero { table_refusal gm_keys (gm_spoken_to (integer (pos 0)) sample_key)
+        ≡ Some (SettingFault.Bad Key.ControlPort) }
+    ensures least { table_refusal gm_keys (gm_spoken_to (integer (pos 1)) sample_key) ≡ None }
+    ensures greatest { table_refusal gm_keys (gm_spoken_to (integer (pos 65534)) sample_key)
+        ≡ None }
+    ensures no_next_number { table_refusal gm_keys
+        (gm_spoken_to (integer (pos 65535)) sample_key) ≡ Some (SettingFault.Bad Key.ControlPort) }
+    // It is not the port of a channel, whether that one has a key or not.
+    ensures event { table_refusal gm_keys (gm_spoken_to (integer (pos 319)) sample_key)
+        ≡ Some (SettingFault.Bad Key.ControlPort) }
+    ensures general { table_refusal gm_keys (gm_spoken_to (integer (pos 320)) sample_key)
+        ≡ Some (SettingFault.Bad Key.ControlPort) }
+    ensures other_event { table_refusal gm_keys (member (codes "event_port") (integer (pos 8319))
+        (gm_spoken_to (integer (pos 8319)) sample_key)) ≡ Some (SettingFault.Bad Key.ControlPort) }
+    ensures other_general { table_refusal gm_keys
+        (member (codes "general_port") (integer (pos 8319))
+        (gm_spoken_to (integer (pos 8319)) sample_key)) ≡ Some (SettingFault.Bad Key.ControlPort) }
+    ensures left_by_a_channel { table_refusal gm_keys
+        (member (codes "event_port") (integer (pos 8319))
+        (gm_spoken_to (integer (pos 319)) sample_key)) ≡ None }
+    ensures of_a_slave { table_refusal slave_keys
+        (member (codes "control_port") (integer (pos 8319)) no_members)
+        ≡ Some SettingFault.Unknown }
+    ensures key_of_a_slave { table_refusal slave_keys
+        (member (codes "control_key") sample_key no_members) ≡ Some SettingFault.Unknown }
 {}
 
 /// How many rounds settings make: those of one serving, with and without a repetition.

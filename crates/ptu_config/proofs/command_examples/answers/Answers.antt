@@ -1,0 +1,16 @@
+use Rattle.std.proofs.Common.{refl}
+use Rattle.std.specs.Fmt.{digits}
+use Rattle.ptu_config.specs.Answers.{reply_text}
+use Rattle.ptu_config.proofs.command_examples.answers.Goals as goal
+
+pub returns : goal.returns
+unfolding reply_text digits
+returns c = record {
+  done = refl;
+  shed = refl;
+  none_shed = refl;
+  words = refl;
+  class = refl;
+  capacity = refl;
+  status = refl;
+}
