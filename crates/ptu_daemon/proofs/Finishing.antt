@@ -284,6 +284,9 @@ module _ {P C : Type 0} (ports : Ports P) (clocks : Clocks C) where
           (subst (λ p. Gave (ports.waiting p) (ports.waiting gm1.reply) (general_of (rounds_of did.done))) p4 did.ran.general_given);
       event = subst (λ p. Gave (ports.waiting opened.p5) (ports.waiting p) (event_of (rounds_of did.done))) (sym q5) did.ran.event_given;
       spoken = did.given;
+      heard = λ waiting waits still quiet.
+          let left = some_is (waits_at ports control') still in
+          (did.heard waiting left.0 quiet waits left.1).1;
       all = whole.all;
       happened = did.happened;
       moments = subst (λ c. Takes (clocks.moments opened.c0) (clocks.moments c) (happens_from settings 0 did.done) (done_events did.done)) (sym k0)
@@ -312,7 +315,8 @@ module _ {P C : Type 0} (ports : Ports P) (clocks : Clocks C) where
           let taken = did.all given general.0 event_left.0 spoken_left.0 none spoke.still
           (ap ports.waiting p4 ∙ is.general, is.event) spoke.waits
           (ap ports.waiting (sym q4) ∙ general.1, ap ports.waiting (sym q5) ∙ event_left.1) spoken_left.1 in
-          (taken.0, sym (many_done did.done rounds did.taken) ∙ rounds_are settings (all_rounds settings) did.done given.spoken whole.all taken.4)
+          (taken.0, sym (many_done did.done rounds did.taken) ∙ rounds_are settings (all_rounds settings) did.done given.spoken whole.all
+          (did.heard given.spoken spoken_left.0 spoke.still spoke.waits spoken_left.1).1)
 
       happened : happens_from settings 0 did.done ≡ in_rounds (round_of settings given) (rounds_done settings given)
       happened = all_taken.0 ∙ ap (in_rounds (round_of settings given)) all_taken.1

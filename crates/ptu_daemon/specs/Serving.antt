@@ -3,13 +3,13 @@ use Rattle.std.specs.Prelude.{◌≡◌, ◌≤◌, ◌⊎◌, ℕ, ◌+◌, ◌
 use Rattle.std.specs.List.{AllByRecursion}
 use Rattle.ptu_outside.specs.declared.{arrival.Arrival.{Arrival}, clock.Clock.{Ghosts as Clocks}}
 use Rattle.ptu_outside.specs.declared.{opened.Opened.{Opened}, port.Port.{Ghosts as Ports}}
-use Rattle.ptu_outside.specs.Telling.{IfTold}
+use Rattle.ptu_outside.specs.{Faults.{HasRisen}, Telling.{IfTold}}
 use Rattle.ptu_grandmaster.specs.declared.driving.GmEvent.{GmEvent}
 use Rattle.ptu_config.specs.{declared.settings.GmSettings.{GmSettings}, Rounds.{all_rounds}}
 use Rattle.ptu_outside.specs.{Handed.{FailuresAre, WereHanded}, Ports.{HaveNotRisen, WereSent, senders_of}}
 use Rattle.ptu_outside.specs.Taken.{Gave, HaveTaken, event_of, general_of}
 use Rattle.ptu_lanes.specs.{Sending.{GoesOn, WasSent}, Served.{ServesByLanes, faults_of}}
-use Rattle.ptu_daemon.specs.Commands.{AreAll, AreCounted, DoneRound, HaveHappened, IsSpoken, WasHandedAt, answers_from, done_events, happens_from, many_from, rounds_of, spoken_of, waits_at}
+use Rattle.ptu_daemon.specs.Commands.{AreAll, AreCounted, AreSpoken, DoneRound, HaveHappened, IsSpoken, WasHandedAt, answers_from, done_events, faults_at, happens_from, many_from, rounds_of, spoken_of, waits_at}
 use Rattle.ptu_daemon.specs.{Events.{Given, Takes, config_of}, Lawful.{IsLawful}}
 use Rattle.ptu_daemon.specs.Served.{Said, numbers_in, opened_as, served_by, served_said}
 use Rattle.ptu_daemon.specs.Sends.{sends_by}
@@ -65,6 +65,9 @@ pub record Happened {P C : Type 0} (ports : Ports P) (clocks : Clocks C) (settin
   pub general : Gave (ports.waiting opened.p4) (ports.waiting closed.p4) (general_of (rounds_of done))
   pub event : Gave (ports.waiting opened.p5) (ports.waiting closed.p5) (event_of (rounds_of done))
   pub spoken : Gave (waits_at ports control) (waits_at ports control') (spoken_of done)
+  -- where that still tells, and its count did not rise, each round took the next that waited there, whatever failed elsewhere
+  pub heard : (waiting : List Arrival) → waits_at ports control ≡ Some waiting → IsSome (waits_at ports control') →
+      ¬ HasRisen (faults_at ports control) (faults_at ports control') → AreSpoken done waiting
   -- they are all rounds, or less where one was told to be the last
   pub all : AreAll settings (all_rounds settings) done
   -- the events are what happens in such rounds: each at some moment, which is the next of clock 0 where that still tells its moments
