@@ -8,7 +8,7 @@ unfolding book_moment capacity_in_force
 returns-clause-stands c = λ lent each none. record {
   tables = each;
   moment = search rules;
-  capacity = refl;
+  capacity = c.of.ensures;
   others = omega (arith, none, none_elsewhere lent 0);
   whole = λ all. sym none;
 }
