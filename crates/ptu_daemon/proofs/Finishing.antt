@@ -18,14 +18,14 @@ use Rattle.ptu_outside.specs.Ports.{HaveNotRisen, HaveRisenBy, HaveRisenJust, We
 use Rattle.ptu_outside.specs.{Handed.{WasHanded, WereHanded}, Taken.{Gave, HaveTaken, event_of, general_of}}
 use Rattle.ptu_outside.specs.Rounds.{in_rounds, timed}
 use Rattle.ptu_outside.specs.declared.tally.Tally.{Tally}
-use Rattle.ptu_daemon.specs.Commands.{AreCounted, DoneRound, IsSpoken, WasHandedAt, answers_from, done_events, happens_from, round_of, rounds_done, rounds_of, served_events, waits_at}
+use Rattle.ptu_daemon.specs.Commands.{AreCounted, DoneRound, IsSpoken, WasHandedAt, answers_from, done_events, happens_from, round_of, rounds_done, rounds_of, served_events, spoken_of, waits_at}
 use Rattle.ptu_daemon.specs.Events.{Given, Happening, Takes, config_of}
 use Rattle.ptu_daemon.specs.Obeying.{DidAll, DidRounds, HandledAt}
 use Rattle.ptu_daemon.specs.Ran.{AllHandled, Handled, five, standing_as}
 use Rattle.ptu_daemon.specs.Sends.{after_all, sends_by}
 use Rattle.ptu_daemon.specs.Served.{Said, opened_as, served_by, served_history, served_said}
-use Rattle.ptu_daemon.specs.Serving.{AreServed, Happened, IsGiven, Serves, many_by}
-use Rattle.ptu_daemon.proofs.{Commands.{many_done, rounds_are}, Handling.{five_each, handled_all, many_of}, Lawful.{is_lawful}, Running.{after_all-history}}
+use Rattle.ptu_daemon.specs.Serving.{AreServed, AreUnspoken, Happened, IsGiven, Serves, many_by}
+use Rattle.ptu_daemon.proofs.{Commands.{many_done, rounds_are}, Handling.{five_each, handled_all, many_of}, Lawful.{is_lawful}, Running.{after_all-history}, Unspoken.{are_alone, nothing_given}}
 
 -- ---- what is told
 
@@ -302,6 +302,12 @@ module _ {P C : Type 0} (ports : Ports P) (clocks : Clocks C) where
       each = each;
     }
 
+    alone : control ≡ None → (said.rounds ≡ all_rounds settings) × AreUnspoken did.done
+    alone none =
+        let unspoken = nothing_given ports control control' _ (spoken_of did.done) none told.1 did.given in
+        let both = are_alone settings (all_rounds settings) did.done unspoken did.happened whole.all in
+        (rounds_is ∙ sym (many_done did.done rounds did.taken) ∙ both.0, both.1)
+
     module _ (given : Given) (is : IsGiven ports clocks opened closed given) (spoke : IsSpoken ports control control' given)
         (still : HaveNotRisen (faults_of ports opened) (faults_of ports closed)) where
       none : tally.failed ≡ 0
@@ -385,6 +391,7 @@ module _ {P C : Type 0} (ports : Ports P) (clocks : Clocks C) where
       failures = record { risen = risen; just = just; quiet = quiet };
       sent = were_sent;
       happened = has_happened;
+      alone = alone;
       served = are_served;
       c1 = k1;
       c2 = k2;

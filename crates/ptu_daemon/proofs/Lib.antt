@@ -10,6 +10,7 @@ pub mod Channels
 pub mod Rounds
 pub mod Messages
 pub mod Lawful
+mod Unspoken
 pub mod Finishing
 pub mod Halves
 pub mod InTwo

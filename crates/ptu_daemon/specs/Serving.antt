@@ -1,5 +1,5 @@
 -- What a call that serves has done with the ports and clocks that it opened.
-use Rattle.std.specs.Prelude.{◌≡◌, ◌≤◌, ◌⊎◌, ℕ, ◌+◌, ◌*◌, List, map, Option, Some, None, IsSome, IfSome}
+use Rattle.std.specs.Prelude.{◌≡◌, ◌≤◌, ◌⊎◌, ℕ, ◌+◌, ◌*◌, List, [], map, Option, Some, None, IsSome, IfSome}
 use Rattle.std.specs.List.{AllByRecursion}
 use Rattle.ptu_outside.specs.declared.{arrival.Arrival.{Arrival}, clock.Clock.{Ghosts as Clocks}}
 use Rattle.ptu_outside.specs.declared.{opened.Opened.{Opened}, port.Port.{Ghosts as Ports}}
@@ -87,6 +87,10 @@ pub record Happened {P C : Type 0} (ports : Ports P) (clocks : Clocks C) (settin
   pub once : missed ≤ 2 * said.rounds
   pub each : said.sent + said.failed ≡ many_by settings (done_events done) + missed
 
+-- none of these rounds took or obeyed anything of a control port
+abbrev pub AreUnspoken : List DoneRound → Type 0
+AreUnspoken done = AllByRecursion (λ (d : DoneRound). (d.spoken ≡ None) × (d.obeyed ≡ [])) done
+
 -- between these ports and clocks as they were opened, and as they are to be given back, and the control port, where there is one, this was
 -- said of the serving; of the control port no fault is counted
 pub record Serves {P C : Type 0} (ports : Ports P) (clocks : Clocks C) (settings : GmSettings) (opened closed : Opened P C) (control control' : Option P)
@@ -98,6 +102,8 @@ pub record Serves {P C : Type 0} (ports : Ports P) (clocks : Clocks C) (settings
   pub sent : WereSent said.sent (map ports.sent (senders_of opened)) (map ports.sent (senders_of closed))
   -- and they are a part of what the events make the grandmaster send, which are those that came
   pub happened : Happened ports clocks settings opened closed control control' said
+  -- without a control port each round is done, and nothing comes but of the two channels
+  pub alone : control ≡ None → (said.rounds ≡ all_rounds settings) × AreUnspoken happened.done
   -- where no count rose, it is what is served
   pub served : (given : Given) → IsGiven ports clocks opened closed given → IsSpoken ports control control' given →
       HaveNotRisen (faults_of ports opened) (faults_of ports closed) → AreServed ports settings given opened closed said
