@@ -4,7 +4,7 @@ use Rattle.ptu_history.specs.Shedding.{shed_grants, shed_record}
 use Rattle.ptu_history.proofs.Moments.{book_moment-resized}
 use Rattle.ptu_admit.specs.{Book.{KeptBook}, declared.shed_list.Shed.{Shed}}
 use Rattle.ptu_admit.specs.{Lent.{EachStandsAt, four}, Newest.{rows_in, shed_at}}
-use Rattle.ptu_admit.proofs.{Alone.{alone_resized, alone_same}, Lending.{are_at, four_swept}}
+use Rattle.ptu_admit.proofs.{Alone.{alone_resized}, Lending.{are_at, four_swept}}
 use Rattle.ptu_admit.proofs.ShedLoop.{all_live, capacity_changed, passes_change, records_changed, swept_rows, swept_share}
 use Rattle.ptu_admit.proofs.Verdicts.{four_stand}
 use Rattle.ptu_admit.proofs.resizing.resize.Goals as goal

@@ -1,4 +1,4 @@
-use Rattle.std.proofs.Common.{refl, rules, sym, arith}
+use Rattle.std.proofs.Common.{rules, sym, arith}
 use Rattle.ptu_history.specs.{History.{capacity_in_force}, Moments.{book_moment}}
 use Rattle.ptu_admit.proofs.Lending.{none_elsewhere}
 use Rattle.ptu_admit.proofs.book.Book.new.Goals as goal
