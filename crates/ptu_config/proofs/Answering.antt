@@ -1,6 +1,5 @@
 -- What is answered for all that a source had left, of which the first octets were taken.
-use Rattle.std.proofs.Common.{◌≡◌, ◌∙◌, ℕ, ◌+◌, ◌<◌, ◌≤◌, List, [], ◌++◌, length, Option, Some, None, Result, Ok, Err, nat_lt, true, inl, inr, refl, sym, ap, subst, arith, length-append}
-use Rattle.std.specs.Io.KnownBytes.{prepend_known}
+use Rattle.std.proofs.Common.{◌≡◌, ◌∙◌, ℕ, ◌<◌, ◌≤◌, List, [], ◌++◌, length, Option, Some, None, Result, Ok, Err, nat_lt, true, inl, inr, refl, sym, ap, subst, arith, length-append}
 use Rattle.std.proofs.lemmas.{Bool.{cases_Bool, lt-ltb, ltb-false, ltb-true}, List.{append-nil}, Option.{same_Some}}
 use Rattle.ptu_config.specs.declared.key.Key.{Key}
 use Rattle.ptu_config.specs.declared.refusal.{RefusalLine.{RefusalLine}, RefusalLine.TheVariants.{Size}}

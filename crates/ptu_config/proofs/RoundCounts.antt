@@ -1,5 +1,5 @@
 -- How many rounds a daemon may do.
-use Rattle.std.proofs.Common.{◌≡◌, ◌≤◌, ◌*◌, ℕ}
+use Rattle.std.proofs.Common.{◌≤◌, ◌*◌, ℕ}
 use Rattle.std.proofs.Math.Nat.{one-le-mul}
 use Rattle.std.proofs.lemmas.Nat.{mul-le}
 use Rattle.ptu_config.specs.Rounds.{IsRepeat, IsRoundCount}

@@ -1,5 +1,5 @@
 //! The settings of a grandmaster.
-ghost use Rattle.std.specs.Prelude.{◌≡◌, ◌<◌, ◌==◌, ◌||◌, if◌then◌else◌, None, Some, IsSome, IfSome, MatchOption, IfOk, IfErr, OnOk, option_map};
+ghost use Rattle.std.specs.Prelude.{◌≡◌, ◌<◌, ◌≤◌, ◌==◌, ◌||◌, if◌then◌else◌, None, Some, IsSome, IfSome, MatchOption, IfOk, IfErr, OnOk, option_map};
 ghost use Rattle.toml.specs.View.{table_view, view};
 ghost use Rattle.ptu_config.specs.Rules.{gm_keys, setting_of, number};
 ghost use Rattle.ptu_config.specs.Documents.{IsSaid, Reads, Refuses, Says, first_bad, refusal_of};
@@ -8,7 +8,7 @@ ghost use Rattle.ptu_config.specs.Limits.{IsControlPort, IsGmInRange, greatest_c
 ghost use Rattle.ptu_config.specs.Forms.{whole_in};
 ghost use Rattle.ptu_units.specs.Limits.{IsCapacity, least_udp_port};
 
-use crate::common::common_of;
+use crate::common::{Common, common_of};
 use crate::document::document;
 use crate::fault::SettingFault;
 use crate::key::Key;
@@ -92,19 +92,17 @@ fn third_port(
 
 // The control port beside the ports of the channels, where its key is there.
 #[tactic(auto, unfolding(crate::specs::Rules::setting_of))]
-fn control_port(
-    table: &Table,
-    event_port: UdpPortNumber,
-    general_port: UdpPortNumber,
-) -> Result<Option<UdpPortNumber>, SettingFault>
-    requires event { setting_of (table_view table.now) Key.EventPort ≡ Some (number event_port) }
+fn control_port(table: &Table, common: &Common) -> Result<Option<UdpPortNumber>, SettingFault>
+    requires event { setting_of (table_view table.now) Key.EventPort
+        ≡ Some (number common.now.event_port) }
     requires general { setting_of (table_view table.now) Key.GeneralPort
-        ≡ Some (number general_port) }
+        ≡ Some (number common.now.general_port) }
     ensures said { IsSaid (table_view table.now) Key.ControlPort number_or_nothing result }
-    ensures range { IfOk result (λ found. IfSome found (IsControlPort event_port general_port)) }
+    ensures range { IfOk result (λ found.
+        IfSome found (IsControlPort common.now.event_port common.now.general_port)) }
 {
     match lookup(table, Key::ControlPort.name()) {
-        Some(value) => match third_port(value, event_port, general_port) {
+        Some(value) => match third_port(value, common.event_port, common.general_port) {
             Some(number) => Ok(Some(number)),
             None => Err(SettingFault::Bad(Key::ControlPort)),
         },
@@ -116,12 +114,12 @@ fn control_port(
 #[tactic(auto, unfolding(crate::specs::Rules::setting_of), using(crate::proofs::Controls::is_set))]
 fn control_key(
     table: &Table,
-    control_port: Option<UdpPortNumber>,
+    control_port: &Option<UdpPortNumber>,
 ) -> Result<Option<u64>, SettingFault>
     requires { setting_of (table_view table.now) Key.ControlPort
-        ≡ Some (number_or_nothing control_port) }
+        ≡ Some (number_or_nothing control_port.now) }
     ensures said { IsSaid (table_view table.now) Key.ControlKey number_or_nothing result }
-    ensures needed { IfOk result (λ found. IsSome control_port → IsSome found) }
+    ensures needed { IfOk result (λ found. IsSome control_port.now → IsSome found) }
 {
     match lookup(table, Key::ControlKey.name()) {
         Some(value) => match identity_of(value) {
@@ -150,8 +148,8 @@ fn gm_of(table: &Table) -> Result<GmSettings, SettingFault>
     let change_round = whole_or(table, Key::ChangeRound, 0, u32::MAX, 0)?;
     let new_capacity = new_capacity(table, change_round)?;
     let two_step = truth_or(table, Key::TwoStep, false)?;
-    let control_port = control_port(table, common.event_port, common.general_port)?;
-    let control_key = control_key(table, control_port)?;
+    let control_port = control_port(table, &common)?;
+    let control_key = control_key(table, &control_port)?;
     Ok(GmSettings {
         ip: common.ip,
         event_port: common.event_port,

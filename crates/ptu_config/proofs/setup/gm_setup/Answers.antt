@@ -1,4 +1,3 @@
-use Rattle.std.proofs.Common.{◌≡◌}
 use Rattle.ptu_config.specs.{Entries.{gm_entries}, Refusals.{gm_refusal}}
 use Rattle.ptu_config.proofs.Answering.{answers_all, long_gm}
 use Rattle.ptu_config.proofs.setup.gm_setup.Goals as goal

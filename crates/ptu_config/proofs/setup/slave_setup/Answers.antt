@@ -1,4 +1,3 @@
-use Rattle.std.proofs.Common.{◌≡◌}
 use Rattle.ptu_config.specs.{Entries.{slave_entries}, Refusals.{slave_refusal}}
 use Rattle.ptu_config.proofs.Answering.{answers_all, long_slave}
 use Rattle.ptu_config.proofs.setup.slave_setup.Goals as goal
