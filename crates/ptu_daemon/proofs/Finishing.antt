@@ -387,6 +387,7 @@ module _ {P C : Type 0} (ports : Ports P) (clocks : Clocks C) where
               omega (arith, e0, e1, e2, e3, e4)
 
     pub serves_of : Serves ports clocks settings opened closed control control' said
+    unfolding has_happened
     serves_of = record {
       failures = record { risen = risen; just = just; quiet = quiet };
       sent = were_sent;

@@ -14,7 +14,7 @@ use Rattle.ptu_daemon.proofs.Commands.{rounds_are}
 pub nothing_given : {P : Type 0} (ports : Ports P) (control control' : Option P) (answers : List Departure) (taken : List Arrival) →
     control ≡ None → WasHandedAt ports control control' answers → Gave (waits_at ports control) (waits_at ports control') taken → taken ≡ []
 nothing_given ports None None answers taken is h gave =
-    let told : Some {A = List Arrival} [] ≡ Some (taken ++ []) = gave in
+    let told : waits_at ports None ≡ Some (taken ++ []) = gave in
     let same : [] ≡ taken ++ [] = cc in
     sym (same ∙ append-nil taken)
 nothing_given ports None (Some q) answers taken is h gave = absurd h
