@@ -1,12 +1,10 @@
 -- What a grandmaster stands for after more records, by what its tables, its book and its counts are then.
-use Rattle.std.proofs.Common.{◌≡◌, ◌≢◌, ℕ, ◌+◌, ◌-◌, ◌%◌, ◌^◌, ◌≤◌, ◌++◌, List, [], ◌∷◌, Bool, true, false, length, map, min, refl, sym, ap, subst, ◌∙◌, arith, Option, Some, None}
+use Rattle.std.proofs.Common.{◌≡◌, ℕ, ◌+◌, ◌%◌, ◌++◌, List, [], ◌∷◌, length, map, refl, sym, ap, subst, ◌∙◌, arith, Some}
 use Rattle.ptu_units.specs.{declared.kind.Kind.{Kind}, Kind.{kind_of}}
 use Rattle.ptu_history.specs.{declared.client.Client.{Client}, Client.{table_of}, Counts.{counts}}
-use Rattle.ptu_history.specs.Core.{core_step, table_step_moment}
-use Rattle.ptu_history.specs.Events as events
 use Rattle.ptu_history.specs.{History.{Record, Capacity, Ended, Looked}, Live.{Grant}}
 use Rattle.ptu_history.specs.{Moments.{book_moment}, Shedding.{shed_record}}
-use Rattle.ptu_history.specs.Step.{answer_records, delay_answer, step, verdict_records}
+use Rattle.ptu_history.specs.Step.{answer_records, delay_answer, verdict_records}
 use Rattle.ptu_history.specs.Turns.{due_grants, sent_record}
 use Rattle.ptu_history.specs.Verdict as verdicts
 use Rattle.ptu_history.specs.Verdict.{Config, verdict}

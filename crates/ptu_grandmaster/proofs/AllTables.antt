@@ -1,5 +1,5 @@
 -- A step on all four tables and the book.
-use Rattle.std.proofs.Common.{◌≡◌, ℕ, ◌+◌, ◌≤◌, ◌++◌, List, [], ◌∷◌, Bool, true, false, max, refl, sym, ap, subst, ◌∙◌, arith, cond}
+use Rattle.std.proofs.Common.{◌≡◌, ℕ, ◌+◌, ◌≤◌, ◌++◌, List, Bool, true, false, subst, arith, cond}
 use Rattle.std.specs.Prelude.{◌==◌}
 use Rattle.ptu_messages.specs.declared.tlv.Ask.{Ask}
 use Rattle.ptu_history.specs.{declared.client.Client.{Client}, Client.{table_of}}
@@ -8,7 +8,7 @@ use Rattle.ptu_history.specs.{History.{Record}, Step.{step}, Verdict.{verdict}}
 use Rattle.ptu_profile.specs.declared.grandmaster.GmConfig.{GmConfig}
 use Rattle.ptu_shard.specs.Table.{Kept}
 use Rattle.ptu_admit.specs.{declared.verdict.Verdict.{Verdict}, Book.{KeptBook}}
-use Rattle.ptu_admit.specs.{Lent.{Lent, StandFor, four, moment_for}, Tables.{KeepsPort, fall_of}}
+use Rattle.ptu_admit.specs.{Lent.{StandFor, four, moment_for}, Tables.{KeepsPort, fall_of}}
 use Rattle.ptu_admit.specs.Verdict.{IsAt, ask_of, config_of, verdict_of}
 use Rattle.ptu_admit.proofs.{Lending.{all_lent}, StepMoments.{moment-own}}
 use Rattle.ptu_gm_messages.specs.Deciding.{asked_by, item_moment, opened_with}

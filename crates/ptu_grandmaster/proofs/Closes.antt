@@ -1,5 +1,5 @@
 -- What is left at the close.
-use Rattle.std.proofs.Common.{◌≡◌, ◌⊎◌, inl, inr, ℕ, ◌+◌, ◌<◌, ◌≤◌, ◌++◌, List, [], ◌∷◌, Bool, true, false, cond, max, refl, sym, ap, ◌∙◌, arith}
+use Rattle.std.proofs.Common.{◌≡◌, inl, ℕ, ◌≤◌, List, [], ◌∷◌, Bool, true, false, cond, max, refl, sym, ap, ◌∙◌, arith}
 use Rattle.std.specs.{Prelude.{nat_lt}, List.{filter}}
 use Rattle.ptu_history.specs.{Core.{book_step_moment}, History.{Record}, Moments.{book_moment}}
 use Rattle.ptu_history.specs.Verdict.{table_rates}

@@ -1,22 +1,22 @@
 -- How many grants are live, by the rows of the tables.
-use Rattle.std.proofs.Common.{◌≡◌, ◌∙◌, ◌⊎◌, inl, inr, ℕ, zero, suc, ◌+◌, ◌<◌, ◌≤◌, ◌++◌, List, [], ◌∷◌, map, take, length, slice_get, Bool, true, not, cond, eqb, ltb, Some, None, refl, sym, ap, subst, arith}
-use Rattle.std.specs.{Prelude.{nat_lt}, List.{Contains, filter, sum_by}}
+use Rattle.std.proofs.Common.{◌≡◌, ◌∙◌, ◌⊎◌, inl, inr, ℕ, zero, suc, ◌+◌, ◌<◌, ◌≤◌, List, [], ◌∷◌, map, Bool, true, false, not, cond, eqb, ltb, refl, sym, ap, subst, arith}
+use Rattle.std.specs.{List.{Contains, filter, sum_by}}
 use Rattle.std.proofs.lemmas.Bool.{eq-eqb, eqb-true, ltb-true}
-use Rattle.std.proofs.lemmas.List.{Elements.{filter-append}, Filters.{sum_by-filter_both}, Kept.{AllPairs-filter}, Sums.{sum_by-append, sum_by-cons}}
+use Rattle.std.proofs.lemmas.List.{Filters.{sum_by-filter_both}, Kept.{AllPairs-filter}, Sums.{sum_by-cons}}
 use Rattle.ptu_units.specs.declared.kind.{Kind.{Kind}, Kind.TheVariants.{Announce, Sync, DelayResp}}
 use Rattle.ptu_history.specs.{Client.{same_kind, table_of}, Core.{book_step_moment}, History.{Record}, Moments.{book_moment}, Verdict.{table_rates}}
 use Rattle.ptu_history.specs.Live.{Grant, IsLastDecision, is_of, live_grants, without}
-use Rattle.ptu_history.proofs.{Keys.{same_lease-refl}, Members.{Differ}, Orders.{live_distinct, live_members}}
+use Rattle.ptu_history.proofs.{Keys.{same_lease-refl}, Members.{Differ}, Orders.{live_distinct, live_members}, Rates.{rates-tables, table_below}}
 use Rattle.ptu_history.proofs.{Standing.{Contains-filter}, Unique.{Apart, Apart-from_pairs, Contains-cons_cases, Contains-first, Contains-from_filter, Contains-later}}
-use Rattle.ptu_shard.specs.{declared.lease.Row.{Row}, Row.{IsDistinctByLease, share_of}, Table.{Kept, StandsAt}}
+use Rattle.ptu_shard.specs.{declared.lease.Row.{Row}, Row.{IsDistinctByLease, share_of}, Table.{StandsAt}}
 use Rattle.ptu_shard.proofs.RowLists as row_lists
-use Rattle.ptu_admit.specs.{declared.live.Live.{Live}, Book.{KeptBook}, Lent.{StandFor, four, lent_as, moment_for_all}}
+use Rattle.ptu_admit.specs.{declared.live.Live.{Live}, Lent.{lent_as, moment_for_all}}
 use Rattle.ptu_admit.specs.{LiveRows.{rows_of_kind}, Newest.{grant_of}, Rows.{live_rows}}
 use Rattle.ptu_admit.proofs.{Grants.{live_share, row_of_live}, StepMoments.{moment-all}}
-use Rattle.ptu_admit.proofs.Sums.{Contains-from_map, Contains-map, IsMapped, distinct_grants, row_rate}
+use Rattle.ptu_admit.proofs.Sums.{Contains-from_map, Contains-map, IsMapped, distinct_grants}
 use Rattle.ptu_grandmaster.specs.declared.status.GmStatus.{GmStatus}
 use Rattle.ptu_grandmaster.specs.Gm.{KeptGm, StandsFor, tables}
-use Rattle.ptu_grandmaster.specs.Status.{AreAllLive, IsGmStatusOf, table_grants}
+use Rattle.ptu_grandmaster.specs.Status.{AreAllLive, IsGmStatusOf, live_of_kind}
 
 -- ---- grants, by any weight
 
@@ -44,6 +44,30 @@ module _ (w : Grant → ℕ) where
       let ih : sum_by w xs ≤ sum_by w (without x.client x.kind ys) = within xs (without x.client x.kind ys) apart.1 (λ g h.
       Contains-filter (λ g. not (is_of x.client x.kind g)) ys g (inside g (Contains-later x xs g h)) (ap not (apart.0 g h))) in
       omega (arith, own, ih, sum_by-cons w x xs, sum_by-filter_both (is_of x.client x.kind) (λ g. not (is_of x.client x.kind g)) (λ _. refl) w ys)
+
+  -- the clients of each table are apart
+  next_in : (g : Grant) (gs : List Grant) (i j : ℕ) → table_of g.client ≡ i →
+      sum_by w (filter (in_table j) (g ∷ gs)) ≡ cond (eqb i j) (w g) 0 + sum_by w (filter (in_table j) gs)
+  next_in g gs i j e = ap (λ n. sum_by w (cond (eqb n j) (g ∷ filter (in_table j) gs) (filter (in_table j) gs))) e ∙ at (eqb i j)
+    where
+      at : (b : Bool) → sum_by w (cond b (g ∷ filter (in_table j) gs) (filter (in_table j) gs)) ≡ cond b (w g) 0 + sum_by w (filter (in_table j) gs)
+      at true = sum_by-cons w g (filter (in_table j) gs)
+      at false = omega arith
+
+  in_tables : (gs : List Grant) → sum_by w gs ≡ sum_by w (filter (in_table 0) gs) + sum_by w (filter (in_table 1) gs) + sum_by w (filter (in_table 2) gs)
+      + sum_by w (filter (in_table 3) gs)
+  in_tables [] = refl
+  in_tables (g ∷ gs) = at (table_of g.client) refl (table_below g.client) (in_tables gs)
+    where
+      at : (i : ℕ) → table_of g.client ≡ i → i < 4 →
+          sum_by w gs ≡ sum_by w (filter (in_table 0) gs) + sum_by w (filter (in_table 1) gs) + sum_by w (filter (in_table 2) gs) + sum_by w (filter (in_table 3) gs) →
+          sum_by w (g ∷ gs) ≡ sum_by w (filter (in_table 0) (g ∷ gs)) + sum_by w (filter (in_table 1) (g ∷ gs)) + sum_by w (filter (in_table 2) (g ∷ gs))
+          + sum_by w (filter (in_table 3) (g ∷ gs))
+      at zero e below ih = omega (arith, ih, sum_by-cons w g gs, next_in g gs 0 0 e, next_in g gs 0 1 e, next_in g gs 0 2 e, next_in g gs 0 3 e)
+      at (suc zero) e below ih = omega (arith, ih, sum_by-cons w g gs, next_in g gs 1 0 e, next_in g gs 1 1 e, next_in g gs 1 2 e, next_in g gs 1 3 e)
+      at (suc (suc zero)) e below ih = omega (arith, ih, sum_by-cons w g gs, next_in g gs 2 0 e, next_in g gs 2 1 e, next_in g gs 2 2 e, next_in g gs 2 3 e)
+      at (suc (suc (suc zero))) e below ih = omega (arith, ih, sum_by-cons w g gs, next_in g gs 3 0 e, next_in g gs 3 1 e, next_in g gs 3 2 e, next_in g gs 3 3 e)
+      at (suc (suc (suc (suc i)))) e below ih = absurd (omega arith)
 
   of_rows : (rs : List Row) → sum_by (λ row. w (grant_of row)) rs ≡ sum_by w (map grant_of rs)
   of_rows [] = refl
@@ -73,6 +97,15 @@ module _ (w : Grant → ℕ) where
       (eq-eqb (table_of m.from.client) j kept.0))) in
       omega (arith, more, less, of_rows (live_rows x xs))
 
+-- how many grants of the kind are live at the moment, of clients of the table
+table_grants : List Record → ℕ → Kind → ℕ → ℕ
+table_grants history x k j = sum_by (λ (g : Grant). cond (same_kind g.kind k) 1 0) (filter (in_table j) (live_grants history x))
+
+kinds-tables : (history : List Record) (x : ℕ) (k : Kind) → table_grants history x k 0 + table_grants history x k 1 + table_grants history x k 2
+    + table_grants history x k 3 ≡ live_of_kind history x k
+unfolding table_grants
+kinds-tables history x k = sym (in_tables (λ (g : Grant). cond (same_kind g.kind k) 1 0) (live_grants history x))
+
 same_count : (k : Kind) (book j : ℕ) (xs : List Row) (moment : ℕ) (history : List Record) (x : ℕ) → StandsAt book j xs moment history → (book ≤ x) ⊎ (moment ≤ x) →
     IsDistinctByLease xs → rows_of_kind k (live_rows x xs) ≡ table_grants history x k j
 unfolding table_grants
@@ -91,8 +124,7 @@ module _ {P : Type 0} (opening : ℕ) (gm : KeptGm P) (history : List Record) (s
   of_kind : (k : Kind) → IsDistinctByLease gm.s0.rows × IsDistinctByLease gm.s1.rows × IsDistinctByLease gm.s2.rows × IsDistinctByLease gm.s3.rows →
       rows_of_kind k (live_rows (moment_for_all 0 gm.book (tables gm)) gm.s0.rows) + rows_of_kind k (live_rows (moment_for_all 0 gm.book (tables gm)) gm.s1.rows)
       + (rows_of_kind k (live_rows (moment_for_all 0 gm.book (tables gm)) gm.s2.rows) + rows_of_kind k (live_rows (moment_for_all 0 gm.book (tables gm)) gm.s3.rows))
-      ≡ table_grants history (book_step_moment history 0) k 0 + table_grants history (book_step_moment history 0) k 1
-      + table_grants history (book_step_moment history 0) k 2 + table_grants history (book_step_moment history 0) k 3
+      ≡ live_of_kind history (book_step_moment history 0) k
   of_kind k (d0, d1, d2, d3) =
       let x = moment_for_all 0 gm.book (tables gm) in
       let t = s.decided.tables in
@@ -104,7 +136,7 @@ module _ {P : Type 0} (opening : ℕ) (gm : KeptGm P) (history : List Record) (s
       same_count k (book_moment history) 2 gm.s2.rows gm.s2.moment history x t.1.1.0 (inl reached) d2 ∙ ap (λ m. table_grants history m k 2) is_reached in
       let c3 : rows_of_kind k (live_rows x gm.s3.rows) ≡ table_grants history (book_step_moment history 0) k 3 =
       same_count k (book_moment history) 3 gm.s3.rows gm.s3.moment history x t.1.1.1.0 (inl reached) d3 ∙ ap (λ m. table_grants history m k 3) is_reached in
-      omega (arith, c0, c1, c2, c3)
+      omega (arith, c0, c1, c2, c3, kinds-tables history (book_step_moment history 0) k)
 
   pub status_is : (status : GmStatus) (live : Live) → status.moment ≡ moment_for_all 0 gm.book (tables gm) → AreAllLive status.moment gm live →
       status.held ≡ live.rates → status.announces ≡ live.announces → status.syncs ≡ live.syncs → status.delay_resps ≡ live.delay_resps →
@@ -125,7 +157,7 @@ module _ {P : Type 0} (opening : ℕ) (gm : KeptGm P) (history : List Record) (s
       record {
         moment = moment ∙ is_reached;
         capacity = capacity ∙ s.decided.capacity;
-        held = omega (arith, held, a.rates, r0, r1, r2, r3);
+        held = omega (arith, held, a.rates, r0, r1, r2, r3, rates-tables history (book_step_moment history 0));
         announces = announces ∙ a.announces ∙ of_kind Announce d;
         syncs = syncs ∙ a.syncs ∙ of_kind Sync d;
         delay_resps = delay_resps ∙ a.delay_resps ∙ of_kind DelayResp d;

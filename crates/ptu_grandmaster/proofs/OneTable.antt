@@ -1,5 +1,5 @@
 -- A step on one of the four tables, which is lent alone with the book.
-use Rattle.std.proofs.Common.{◌≡◌, ℕ, ◌+◌, ◌<◌, ◌≤◌, ◌++◌, List, [], ◌∷◌, Bool, true, false, max, refl, sym, ap, subst, ◌∙◌, arith, Option, Some, None}
+use Rattle.std.proofs.Common.{◌≡◌, ℕ, ◌+◌, ◌++◌, List, [], ◌∷◌, Bool, false, max, refl, ap, subst, ◌∙◌, arith, Option, Some, None}
 use Rattle.std.specs.{Prelude.{IfSome, map}, Option.{OnSome}, List.Sorted.{IsPermutation}}
 use Rattle.ptu_units.specs.declared.kind.Kind.{Kind}
 use Rattle.ptu_history.specs.{declared.client.Client.{Client}, Client.{table_of}}

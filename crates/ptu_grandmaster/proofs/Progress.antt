@@ -1,6 +1,6 @@
 -- Items that are decided one after the other.
-use Rattle.std.proofs.Common.{◌≡◌, ℕ, ◌+◌, ◌<◌, ◌≤◌, ◌++◌, List, [], ◌∷◌, length, get_or, take, map, refl, sym, ap, subst, ◌∙◌, arith, length-take}
-use Rattle.std.proofs.lemmas.List.{append-nil, map-append}
+use Rattle.std.proofs.Common.{◌≡◌, ℕ, ◌+◌, ◌≤◌, ◌++◌, List, [], ◌∷◌, length, take, map, refl, sym, ap, subst, ◌∙◌, arith, length-take}
+use Rattle.std.proofs.lemmas.List.{map-append}
 use Rattle.ptu_history.specs.{declared.client.Client.{Client}, History.{Record}}
 use Rattle.ptu_history.specs.Core.{history_after}
 use Rattle.ptu_gm_messages.specs.declared.item.Item.{Item}

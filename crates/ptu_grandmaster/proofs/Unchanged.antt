@@ -1,11 +1,11 @@
 -- Tables that have got room, and nothing else.
-use Rattle.std.proofs.Common.{◌≡◌, ℕ, ◌++◌, ◌≤◌, List, [], ◌∷◌, sym, subst}
+use Rattle.std.proofs.Common.{ℕ, ◌++◌, List, ◌∷◌}
 use Rattle.std.specs.List.Sorted.{IsPermutation}
 use Rattle.ptu_history.specs.{History.{Record}, Moments.{book_moment}}
-use Rattle.ptu_shard.specs.{Row.{share_of}, Table.{Kept, StandsAt}}
+use Rattle.ptu_shard.specs.{Table.{Kept, StandsAt}}
 use Rattle.ptu_admit.specs.Book.{KeptBook}
-use Rattle.ptu_admit.specs.Lent.{EachStandsAt, Lent, StandFor, lent_as, rates_elsewhere, is_lent, shares}
-use Rattle.ptu_admit.proofs.{Lending.{AreAt, are_at, stand_for}, Sums.{share_of-permuted}}
+use Rattle.ptu_admit.specs.Lent.{Lent, StandFor, lent_as, rates_elsewhere}
+use Rattle.ptu_admit.proofs.{Sums.{share_of-permuted}}
 use Rattle.ptu_grandmaster.proofs.OneTable.{lent_back, lent_first}
 
 -- a table whose rows are in another order stands for what it stood for

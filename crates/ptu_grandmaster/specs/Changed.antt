@@ -19,10 +19,10 @@ AreShedAt history t capacity at shed =
     (at ≡ book_step_moment history t) × (shed ≡ map shed_of (shed_grants history at capacity))
 
 -- the capacity in force became this, at the core's moment for `t`
-pub record HasChanged {P : Type 0} (ports : Ports P) (t capacity : ℕ) (old new : KeptGm P) (changed : Changed) : Type 0 where
+pub record HasChanged {P : Type 0} (exposed : Ports P) (t capacity : ℕ) (old new : KeptGm P) (changed : Changed) : Type 0 where
   pub at : changed.at ≡ moment_for_all t old.book (tables old)
   -- the CANCELs of the grants that are shed are handed to the reply port, in order
-  pub sends : HandsOver ports old.reply new.reply (cancels_to old.config old.sequence (leases_shed changed.shed)) changed.sent changed.failed
+  pub sends : HandsOver exposed old.reply new.reply (cancels_to old.config old.sequence (leases_shed changed.shed)) changed.sent changed.failed
   pub count : changed.sent + changed.failed ≡ length changed.shed
   pub ports : (new.s0.port ≡ old.s0.port) × (new.s1.port ≡ old.s1.port) × (new.s2.port ≡ old.s2.port) × (new.s3.port ≡ old.s3.port)
   pub config : new.config ≡ old.config

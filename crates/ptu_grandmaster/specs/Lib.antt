@@ -6,3 +6,4 @@ pub mod Changed
 pub mod Driven
 pub mod Lends
 pub mod Status
+pub mod StatusExamples

@@ -1,33 +1,22 @@
 -- How a grandmaster stands, by its history.
-use Rattle.std.specs.Prelude.{◌≡◌, ℕ, ◌+◌, ◌==◌, List, count_by}
-use Rattle.std.specs.List.{filter}
+use Rattle.std.specs.Prelude.{◌≡◌, ℕ, ◌+◌, List, count_by}
 use Rattle.ptu_units.specs.declared.kind.Kind.{Kind}
 use Rattle.ptu_units.specs.declared.kind.Kind.TheVariants.{Announce, Sync, DelayResp}
 use Rattle.ptu_units.specs.Counts.{counted}
-use Rattle.ptu_history.specs.{Client.{same_kind, table_of}, Core.{book_step_moment}, Counts.{counts}}
-use Rattle.ptu_history.specs.{History.{Record, capacity_in_force}, Live.{Grant, live_grants}, Verdict.{table_rates}}
+use Rattle.ptu_history.specs.{Client.{same_kind}, Core.{book_step_moment}, Counts.{counts}}
+use Rattle.ptu_history.specs.{History.{Record, capacity_in_force}, Live.{Grant, live_grants}, Verdict.{rate_sum}}
 use Rattle.ptu_shard.specs.Row.{IsDistinctByLease, share_of}
 use Rattle.ptu_admit.specs.{declared.live.Live.{Live}, LiveRows.{rows_of_kind}, Rows.{live_rows}}
 use Rattle.ptu_grandmaster.specs.declared.status.GmStatus.{GmStatus}
 use Rattle.ptu_grandmaster.specs.Gm.{KeptGm}
 
--- how many of these grants are of the kind
-abbrev pub grants_of_kind : Kind → List Grant → ℕ
-grants_of_kind k grants = count_by (λ (g : Grant). same_kind g.kind k) grants
-
--- how many grants of the kind are live at the moment, of clients of the table
-unfoldable pub table_grants : List Record → ℕ → Kind → ℕ → ℕ
-table_grants history x k j = grants_of_kind k (filter (λ g. table_of g.client == j) (live_grants history x))
-
--- how many are, of all clients
+-- how many grants of the kind are live at the moment
 abbrev pub live_of_kind : List Record → ℕ → Kind → ℕ
-live_of_kind history x k =
-    table_grants history x k 0 + table_grants history x k 1 + table_grants history x k 2 + table_grants history x k 3
+live_of_kind history x k = count_by (λ (g : Grant). same_kind g.kind k) (live_grants history x)
 
 -- the sum of the rates of the grants that are live at the moment
 abbrev pub live_rates : List Record → ℕ → ℕ
-live_rates history x =
-    table_rates history x 0 + table_rates history x 1 + table_rates history x 2 + table_rates history x 3
+live_rates history x = rate_sum (live_grants history x)
 
 -- it is how a grandmaster stands after the history that was opened with this capacity: at the greatest
 -- moment of its tables and its book

@@ -1,5 +1,5 @@
 -- What a grandmaster does with a datagram.
-use Rattle.std.specs.Prelude.{◌≡◌, ◌↔◌, ℕ, List, [], ◌∷◌, map, Option, Result, Ok, Err}
+use Rattle.std.specs.Prelude.{◌≡◌, ◌↔◌, ℕ, List, [], ◌∷◌, map, Result, Ok, Err}
 use Rattle.ptu_outside.specs.{Departure.{Departure}, declared.port.Port.{Ghosts as Ports}}
 use Rattle.ptu_outside.specs.HandsOver.{HandsOver}
 use Rattle.ptu_messages.specs.declared.header.Header.{Header}
@@ -19,7 +19,7 @@ use Rattle.ptu_outside.specs.declared.reply.Reply.{Reply}
 use Rattle.ptu_outside.specs.declared.reply.Reply.TheVariants.{Sent, Failed, Nothing}
 use Rattle.ptu_grandmaster.specs.declared.outcome.Taken.{Taken}
 use Rattle.ptu_grandmaster.specs.declared.outcome.Taken.TheVariants.{Ignored, Delay, Asked}
-use Rattle.ptu_grandmaster.specs.Outcomes.{answers_seen, decisions_seen, item_seen}
+use Rattle.ptu_grandmaster.specs.Outcomes.{decisions_seen, item_seen}
 
 -- the answer is one to what was heard: the reason why it is ignored, an answer to a Delay_Req, or outcomes of the items
 -- with a reply, which is nothing exactly where there is no item

@@ -5,6 +5,7 @@
 mod closing;
 mod deciding;
 mod driving;
+pub mod examples;
 mod gm;
 mod outcome;
 mod replying;

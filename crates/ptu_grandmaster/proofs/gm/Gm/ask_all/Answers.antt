@@ -1,4 +1,4 @@
-use Rattle.std.proofs.Common.{◌≡◌, ◌∙◌, [], ◌∷◌, refl, sym, arith}
+use Rattle.std.proofs.Common.{refl}
 use Rattle.ptu_grandmaster.proofs.AllTables.{asked_all, spare_kept}
 use Rattle.ptu_grandmaster.proofs.gm.Gm.ask_all.Goals as goal
 

@@ -1,4 +1,4 @@
-use Rattle.std.proofs.Common.{◌≡◌, ◌+◌, ◌∙◌, ap, sym, arith}
+use Rattle.std.proofs.Common.{◌∙◌, ap, arith}
 use Rattle.ptu_grandmaster.proofs.Closes.{closed_0, closed_1, closed_2, closed_3, four_counts, swept_share}
 use Rattle.ptu_grandmaster.proofs.gm.Gm.close.Goals as goal
 

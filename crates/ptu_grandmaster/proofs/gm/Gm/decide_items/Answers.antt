@@ -1,6 +1,6 @@
-use Rattle.std.proofs.Common.{◌≡◌, ◌+◌, ◌<◌, ◌≤◌, ◌++◌, [], ◌∷◌, List, cond, length, take, true, vec_len, refl, sym, ap, subst, ◌∙◌, arith}
+use Rattle.std.proofs.Common.{◌≡◌, ◌+◌, ◌<◌, ◌++◌, [], ◌∷◌, List, cond, take, true, vec_len, sym, ap, subst, ◌∙◌, arith}
 use Rattle.std.specs.Prelude.{is_ok, vec_capacity}
-use Rattle.std.proofs.lemmas.List.{take_all, take_more}
+use Rattle.std.proofs.lemmas.List.{take_more}
 use Rattle.ptu_gm_messages.specs.declared.item.Item.{Item}
 use Rattle.ptu_grandmaster.proofs.Progress.{Progress, length-front, none_yet, one_more}
 use Rattle.ptu_grandmaster.proofs.gm.Gm.decide_items.Goals as goal

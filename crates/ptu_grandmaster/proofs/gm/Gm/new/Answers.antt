@@ -1,4 +1,4 @@
-use Rattle.std.proofs.Common.{◌≡◌, ℕ, List, [], ◌∷◌, refl, sym, ap, subst}
+use Rattle.std.proofs.Common.{refl}
 use Rattle.ptu_grandmaster.proofs.After.{empty}
 use Rattle.ptu_grandmaster.proofs.gm.Gm.new.Goals as goal
 

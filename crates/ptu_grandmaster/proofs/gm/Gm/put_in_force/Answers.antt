@@ -1,4 +1,4 @@
-use Rattle.std.proofs.Common.{rules, ◌≡◌, ◌+◌, ◌++◌, ◌∙◌, List, ℕ, length, refl, sym, ap, subst}
+use Rattle.std.proofs.Common.{rules, ◌≡◌, ◌+◌, ◌++◌, ◌∙◌, ℕ, length, refl, ap, subst}
 use Rattle.std.proofs.lemmas.List.{length-map}
 use Rattle.ptu_history.specs.Core.{book_step_moment}
 use Rattle.ptu_history.specs.Events as events
@@ -21,7 +21,7 @@ returns-clause-changed g c =
         c.in_ok-resized.ensures.at
             ∙ moment-all opening c.args.t (lent_as 0 c.self.inside.s0) (lent_as 1 c.self.inside.s1) (lent_as 2 c.self.inside.s2) (lent_as 3 c.self.inside.s3) c.self.inside.book history s.decided
             refl refl refl refl,
-        c.list.ensures ∙ c.in_ok-resized.ensures.shed opening history s.decided,
+        c.in_ok-resized.ensures.shed opening history s.decided,
       );
       stands = λ opening history s.
           let at = c.in_ok-resized.resized.at in
