@@ -320,9 +320,11 @@ module _ {P C : Type 0} (ports : Ports P) (clocks : Clocks C) where
           let spoken_left = some_is (waits_at ports control') spoke.waits_still in
           let taken = did.all given general.0 event_left.0 spoken_left.0 none spoke.still
           (ap ports.waiting p4 ∙ is.general, is.event) spoke.waits
-          (ap ports.waiting (sym q4) ∙ general.1, ap ports.waiting (sym q5) ∙ event_left.1) spoken_left.1 in
-          (taken.0, sym (many_done did.done rounds did.taken) ∙ rounds_are settings (all_rounds settings) did.done given.spoken whole.all
-          (did.heard given.spoken spoken_left.0 spoke.still spoke.waits spoken_left.1).1)
+          (ap ports.waiting (sym q4) ∙ general.1, ap ports.waiting (sym q5) ∙ event_left.1) spoken_left.1 in (
+            taken.0,
+            sym (many_done did.done rounds did.taken) ∙ rounds_are settings (all_rounds settings) did.done given.spoken whole.all
+                (did.heard given.spoken spoken_left.0 spoke.still spoke.waits spoken_left.1).1,
+          )
 
       happened : happens_from settings 0 did.done ≡ in_rounds (round_of settings given) (rounds_done settings given)
       happened = all_taken.0 ∙ ap (in_rounds (round_of settings given)) all_taken.1
