@@ -11,6 +11,7 @@ pub mod Rounds
 pub mod Messages
 pub mod Lawful
 mod Unspoken
+mod Asked
 pub mod Finishing
 pub mod Halves
 pub mod InTwo
