@@ -1,5 +1,5 @@
 -- What is served without a control port: each round is done, and nothing comes but of the two channels.
-use Rattle.std.proofs.Common.{◌≡◌, ◌∙◌, ℕ, suc, zero, ◌+◌, List, [], ◌∷◌, ◌++◌, length, Option, Some, None, refl, sym, subst}
+use Rattle.std.proofs.Common.{◌≡◌, ◌∙◌, ℕ, suc, zero, ◌+◌, true, false, List, [], ◌∷◌, ◌++◌, length, Option, Some, None, is_some, refl, sym, subst}
 use Rattle.std.proofs.lemmas.List.{append-nil}
 use Rattle.std.specs.List.{AllByRecursion}
 use Rattle.ptu_config.specs.declared.settings.GmSettings.{GmSettings}
@@ -9,6 +9,15 @@ use Rattle.ptu_grandmaster.specs.declared.driving.GmEvent.{GmEvent}
 use Rattle.ptu_daemon.specs.Commands.{AreAll, AreSpoken, DoneRound, HaveHappened, WasHandedAt, happens_by, listed, order_in, rounds_until, spoken_of, waits_at}
 use Rattle.ptu_daemon.specs.Serving.{AreUnspoken}
 use Rattle.ptu_daemon.proofs.Commands.{rounds_are}
+
+-- a control port that is not there is not given back
+pub none_back : {P : Type 0} (ports : Ports P) (control' : Option P) (answers : List Departure) → WasHandedAt ports None control' answers → control' ≡ None
+none_back ports None answers h = refl
+none_back ports (Some q) answers h = absurd h
+
+pub none_there : {P : Type 0} (control : Option P) → is_some control ≡ false → control ≡ None
+none_there None is = refl
+none_there (Some port) is = absurd (let never : true ≡ false = is in cc)
 
 -- nothing was taken of a control port that is not there
 pub nothing_given : {P : Type 0} (ports : Ports P) (control control' : Option P) (answers : List Departure) (taken : List Arrival) →
