@@ -18,14 +18,14 @@ use Rattle.ptu_outside.specs.Ports.{HaveNotRisen, HaveRisenBy, HaveRisenJust, We
 use Rattle.ptu_outside.specs.{Handed.{WasHanded, WereHanded}, Taken.{Gave, HaveTaken, event_of, general_of}}
 use Rattle.ptu_outside.specs.Rounds.{in_rounds, timed}
 use Rattle.ptu_outside.specs.declared.tally.Tally.{Tally}
-use Rattle.ptu_daemon.specs.Commands.{AreCounted, DoneRound, IsSpoken, WasHandedAt, answers_from, done_events, happens_from, round_of, rounds_done, rounds_of, served_events, waits_at}
+use Rattle.ptu_daemon.specs.Commands.{AreCounted, AreRoundsOf, DoneRound, IsSpoken, WasHandedAt, answers_from, done_events, happens_from, round_of, rounds_done, rounds_of, served_events, spoken_of, waits_at}
 use Rattle.ptu_daemon.specs.Events.{Given, Happening, Takes, config_of}
 use Rattle.ptu_daemon.specs.Obeying.{DidAll, DidRounds, HandledAt}
 use Rattle.ptu_daemon.specs.Ran.{AllHandled, Handled, five, standing_as}
 use Rattle.ptu_daemon.specs.Sends.{after_all, sends_by}
 use Rattle.ptu_daemon.specs.Served.{Said, opened_as, served_by, served_history, served_said}
-use Rattle.ptu_daemon.specs.Serving.{AreServed, Happened, IsGiven, Serves, many_by}
-use Rattle.ptu_daemon.proofs.{Commands.{many_done, rounds_are}, Handling.{five_each, handled_all, many_of}, Lawful.{is_lawful}, Running.{after_all-history}}
+use Rattle.ptu_daemon.specs.Serving.{AreServed, AreUnspoken, Happened, IsGiven, Serves, many_by}
+use Rattle.ptu_daemon.proofs.{Commands.{many_done, rounds_are}, Handling.{five_each, handled_all, many_of}, Lawful.{is_lawful}, Running.{after_all-history}, Unspoken.{are_alone, nothing_given}}
 
 -- ---- what is told
 
@@ -284,6 +284,9 @@ module _ {P C : Type 0} (ports : Ports P) (clocks : Clocks C) where
           (subst (λ p. Gave (ports.waiting p) (ports.waiting gm1.reply) (general_of (rounds_of did.done))) p4 did.ran.general_given);
       event = subst (λ p. Gave (ports.waiting opened.p5) (ports.waiting p) (event_of (rounds_of did.done))) (sym q5) did.ran.event_given;
       spoken = did.given;
+      heard = λ waiting waits still quiet.
+          let left = some_is (waits_at ports control') still in
+          (did.heard waiting left.0 quiet waits left.1).1;
       all = whole.all;
       happened = did.happened;
       moments = subst (λ c. Takes (clocks.moments opened.c0) (clocks.moments c) (happens_from settings 0 did.done) (done_events did.done)) (sym k0)
@@ -299,20 +302,34 @@ module _ {P C : Type 0} (ports : Ports P) (clocks : Clocks C) where
       each = each;
     }
 
+    alone : control ≡ None → (said.rounds ≡ all_rounds settings) × AreUnspoken did.done
+    alone none =
+        let unspoken = nothing_given ports control control' _ (spoken_of did.done) none told.1 did.given in
+        let both = are_alone settings (all_rounds settings) did.done unspoken did.happened whole.all in
+        (rounds_is ∙ sym (many_done did.done rounds did.taken) ∙ both.0, both.1)
+
     module _ (given : Given) (is : IsGiven ports clocks opened closed given) (spoke : IsSpoken ports control control' given)
         (still : HaveNotRisen (faults_of ports opened) (faults_of ports closed)) where
       none : tally.failed ≡ 0
       none = sym failed_is ∙ none_together said.failed (faults_of ports opened) (faults_of ports closed) risen still
 
       all_taken : (happens_from settings 0 did.done ≡ in_rounds (round_of settings given) rounds) × (rounds ≡ rounds_done settings given)
+          × AreRoundsOf given 0 did.done
       all_taken =
           let general = some_is (ports.waiting closed.p4) is.general_still in
           let event_left = some_is (ports.waiting closed.p5) is.event_still in
           let spoken_left = some_is (waits_at ports control') spoke.waits_still in
           let taken = did.all given general.0 event_left.0 spoken_left.0 none spoke.still
           (ap ports.waiting p4 ∙ is.general, is.event) spoke.waits
-          (ap ports.waiting (sym q4) ∙ general.1, ap ports.waiting (sym q5) ∙ event_left.1) spoken_left.1 in
-          (taken.0, sym (many_done did.done rounds did.taken) ∙ rounds_are settings (all_rounds settings) did.done given.spoken whole.all taken.4)
+          (ap ports.waiting (sym q4) ∙ general.1, ap ports.waiting (sym q5) ∙ event_left.1) spoken_left.1 in (
+            taken.0,
+            sym (many_done did.done rounds did.taken) ∙ rounds_are settings (all_rounds settings) did.done given.spoken whole.all
+                (did.heard given.spoken spoken_left.0 spoke.still spoke.waits spoken_left.1).1,
+            taken.1,
+          )
+
+      by_rounds : AreRoundsOf given 0 did.done
+      by_rounds = all_taken.2
 
       happened : happens_from settings 0 did.done ≡ in_rounds (round_of settings given) (rounds_done settings given)
       happened = all_taken.0 ∙ ap (in_rounds (round_of settings given)) all_taken.1
@@ -377,11 +394,14 @@ module _ {P C : Type 0} (ports : Ports P) (clocks : Clocks C) where
               omega (arith, e0, e1, e2, e3, e4)
 
     pub serves_of : Serves ports clocks settings opened closed control control' said
+    unfolding has_happened
     serves_of = record {
       failures = record { risen = risen; just = just; quiet = quiet };
       sent = were_sent;
       happened = has_happened;
+      alone = alone;
       served = are_served;
+      by_rounds = by_rounds;
       c1 = k1;
       c2 = k2;
       c3 = k3;

@@ -10,6 +10,8 @@ pub mod Channels
 pub mod Rounds
 pub mod Messages
 pub mod Lawful
+mod Unspoken
+mod Asked
 pub mod Finishing
 pub mod Halves
 pub mod InTwo

@@ -1,4 +1,4 @@
--- What was taken of the control port, and what was done and answer_sent.
+-- What was taken of the control port, and what was done and answered.
 use Rattle.std.proofs.Common.{◌≡◌, ◌∙◌, ℕ, ◌+◌, List, [], ◌∷◌, length, take, Bool, false, Option, Some, None, IfSome, Result, Ok, Err, refl, sym, ap, subst, arith}
 use Rattle.std.specs.Prelude.{IfNone}
 use Rattle.ptu_outside.specs.declared.{arrival.Arrival.{Arrival}, clock.Clock.{Ghosts as Clocks}, failed.Failed.{Failed}, port.Port.{Ghosts as Ports}}
@@ -198,7 +198,7 @@ module _ {P C : Type 0} (ports : Ports P) (clocks : Clocks C) where
         small = small;
       })
 
-  -- it was obeyed and answer_sent
+  -- it was obeyed and answered
   pub follows_command : (command : Command) (before : ℕ) (tally : Tally) (old new : Daemon P C) (port port' : P) (reply : Reply) (more : Tally) (obeyed : Obeyed) →
       Executed ports clocks command before tally old new reply more → WasAnswered ports port port' reply →
       obeyed.tally ≡ more → obeyed.stops ≡ is_stop_order (Some (Ok command)) →
@@ -219,7 +219,7 @@ module _ {P C : Type 0} (ports : Ports P) (clocks : Clocks C) where
             (hands_handled ports port port' (answer_sent reply ∷ []) w.sent w.failed w.hands);
       }
 
-  -- it was no command, and its cause was answer_sent
+  -- it was no command, and its cause was answered
   pub follows_cause : (cause : Cause) (before : ℕ) (tally : Tally) (daemon : Daemon P C) (port port' : P) (obeyed : Obeyed) →
       WasAnswered ports port port' (Bad cause) → (obeyed.tally.sent ≡ 0) × (obeyed.tally.failed ≡ 0) → obeyed.stops ≡ false →
       Follows ports clocks (Some (Err cause)) before tally daemon daemon (Some port) (Some port') obeyed
@@ -272,14 +272,14 @@ module _ {P C : Type 0} (ports : Ports P) (clocks : Clocks C) where
       IfNone spoken (IfSome told (λ left. left ≡ [])) → IfNone spoken (IfSome told' (λ left. left ≡ []))
   none_still spoken told told' same h = subst (λ t. IfNone spoken (IfSome t (λ left. left ≡ []))) (sym same) h
 
-  -- an order was obeyed, and answer_sent
+  -- an order was obeyed and answered
   abbrev Answered : ℕ → Tally → Daemon P C → Daemon P C → P → P → Obeyed → ℕ → ℕ → ℕ → Option (Result Command Cause) → Type 0
   Answered before tally old new port port' obeyed sent failed missed order =
       (r : Ran ports clocks old new (happens_by order) [] [] obeyed.tally.sent obeyed.tally.failed 0)
       × ((opening : ℕ) (past : List Record) → StandsFor opening old.gm past →
       Handled ports (order_answers (situation_at (standing_as old.gm opening past) before tally) order r.events) sent failed missed port port')
 
-  -- what was order_asked for was done
+  -- what was asked for was done
   pub obeyed_one : (key before : ℕ) (tally : Tally) (old new : Daemon P C) (port middle port' : P) (order : Result Command Cause) (obeyed : Obeyed) →
       TookOrder ports key port middle (Some order) → Follows ports clocks (Some order) before tally old new (Some middle) (Some port') obeyed →
       Obeys ports clocks key before tally old new (Some port) (Some port') obeyed

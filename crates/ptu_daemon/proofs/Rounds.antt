@@ -13,11 +13,11 @@ use Rattle.ptu_outside.specs.{Rounds.{in_rounds, left_after, taken_in}, Taken.{G
 use Rattle.ptu_outside.proofs.Taken.{event_of-push, general_of-push, have_taken-none, have_taken-push}
 use Rattle.ptu_outside.specs.declared.tally.Tally.{Tally}
 use Rattle.ptu_daemon.specs.declared.{daemon.Daemon.{Daemon}, obeying.Obeyed.{Obeyed}}
-use Rattle.ptu_daemon.specs.Commands.{AreAll, AreCounted, DoneRound, order_answers, answers_from, done_events, faults_at, happens_by, happens_from, is_last, listed, many_from, order_in, round_of, rounds_of, spoken_of, waits_at}
+use Rattle.ptu_daemon.specs.Commands.{AreAll, AreCounted, AreRoundsOf, AreSpoken, DoneRound, order_answers, answers_from, done_events, faults_at, happens_by, happens_from, is_last, listed, many_from, order_in, round_of, rounds_of, spoken_of, waits_at}
 use Rattle.ptu_daemon.specs.Events.{Given, change_in, round_given, round_with, taking, turns}
-use Rattle.ptu_daemon.specs.Obeying.{AreSpoken, DidAll, DidRounds, DidWhole, HandledAt, Waits}
+use Rattle.ptu_daemon.specs.Obeying.{DidAll, DidRounds, DidWhole, HandledAt, Waits}
 use Rattle.ptu_daemon.specs.{Ran.{DidRound, IsSmall, Ran, TookChannel, five, standing_as}, Sends.{Standing, after_all, sends_by}}
-use Rattle.ptu_daemon.proofs.Commands.{GoOn, all_gone, answers_from-push, are_counted-push, are_spoken-push, events_of-push, go_on-push, happens_from-push, have_happened-push, many_done, many_from-append, one_last, rounds_of-push, spoken_of-push, within-push}
+use Rattle.ptu_daemon.proofs.Commands.{GoOn, all_gone, answers_from-push, are_counted-push, are_rounds-push, are_spoken-push, events_of-push, go_on-push, happens_from-push, have_happened-push, many_done, many_from-append, one_last, rounds_of-push, spoken_of-push, within-push}
 use Rattle.ptu_daemon.proofs.Handling.{all_within, five_each, handled_more, handled_same}
 use Rattle.ptu_daemon.proofs.Running.{after_all-append, after_is, gives_more, gives_none, none_happened, ran_as, ran_as_with, ran_more, ran_more_with, ran_none}
 
@@ -149,12 +149,12 @@ module _ {P C : Type 0} (ports : Ports P) (clocks : Clocks C) where
           failed = 0;
           unheard = 0;
           answers = λ opening past stood. (tt, idle port);
+          heard = λ waiting left quiet u u'. (same waiting left (waits_at ports port) u u', tt);
           all = λ given general_left event_left spoken_left still quiet (w, w') u (v, v') u'. (
             refl,
+            tt,
             one given.general general_left (ports.waiting daemon.gm.reply) w v,
             one given.event event_left (ports.waiting daemon.event) w' v',
-            same given.spoken spoken_left (waits_at ports port) u u',
-            tt,
           );
         },
         refl,
@@ -327,25 +327,45 @@ module _ {P C : Type 0} (ports : Ports P) (clocks : Clocks C) where
         (gives_more (ports.waiting now.event) (ports.waiting k.turned.event) (ports.waiting k.told.event) d.round.event []
         k.did.ran.event_given k.obeys.ran.event_given) k.waits.event_given)
 
+    -- where no count of the control port rose, it had not risen before
+    quiet_before : ¬ HasRisen (faults_at ports port0) (faults_at ports port') → ¬ HasRisen (faults_at ports port0) (faults_at ports port)
+    quiet_before quiet rises = quiet (rises_first (faults_at ports port0) (faults_at ports port) (faults_at ports port') rises k.obeys.no_fall)
+
+    -- what waited there before the round
+    spoke : (left : List Arrival) → waits_at ports port' ≡ Some left → waits_at ports port ≡ Some (listed d.spoken ++ left)
+    spoke left is = given_before (waits_at ports port) (waits_at ports port') (listed d.spoken) left k.obeys.given is
+
+    -- and the round took the next of that
+    heard_now : (waiting left : List Arrival) → ¬ HasRisen (faults_at ports port0) (faults_at ports port') →
+        waits_at ports port0 ≡ Some waiting → waits_at ports port' ≡ Some left → (slice_get waiting before ≡ d.spoken) × (left ≡ drop (before + 1) waiting)
+    heard_now waiting left quiet waits is =
+        let quiet_now : ¬ HasRisen (faults_at ports port) (faults_at ports port') =
+        λ rises. quiet (rises_second (faults_at ports port0) (faults_at ports port) (faults_at ports port') h.no_fall rises) in
+        next_spoken before d.spoken left waiting (h.heard waiting (listed d.spoken ++ left) (quiet_before quiet) waits (spoke left is)).0
+        (none_left d.spoken (waits_at ports port') left is (k.obeys.drained quiet_now))
+
+    heard : (waiting left : List Arrival) → ¬ HasRisen (faults_at ports port0) (faults_at ports port') →
+        waits_at ports port0 ≡ Some waiting → waits_at ports port' ≡ Some left → (left ≡ drop (before + 1) waiting) × AreSpoken (h.done ++ d ∷ []) waiting
+    heard waiting left quiet waits is =
+        let now = heard_now waiting left quiet waits is in (
+          now.1,
+          are_spoken-push h.done d waiting (h.heard waiting (listed d.spoken ++ left) (quiet_before quiet) waits (spoke left is)).1
+              (ap (slice_get waiting) (many_done h.done before h.taken) ∙ now.0),
+        )
+
     all : (given : Given) (general_left event_left spoken_left : List Arrival) → after.tally.failed ≡ 0 → ¬ HasRisen (faults_at ports port0) (faults_at ports port') →
         Waits ports old given.general given.event → waits_at ports port0 ≡ Some given.spoken →
         Waits ports new general_left event_left → waits_at ports port' ≡ Some spoken_left →
-        (happens_from settings 0 (h.done ++ d ∷ []) ≡ in_rounds (round_of settings given) (before + 1))
+        (happens_from settings 0 (h.done ++ d ∷ []) ≡ in_rounds (round_of settings given) (before + 1)) × AreRoundsOf given 0 (h.done ++ d ∷ [])
         × (general_left ≡ left_after (before + 1) given.general) × (event_left ≡ left_after (before + 1) given.event)
-        × (spoken_left ≡ drop (before + 1) given.spoken) × AreSpoken (h.done ++ d ∷ []) given.spoken
     unfolding in_rounds
     all given general_left event_left spoken_left still quiet was waits (is, is') is_spoken =
         let gave = given_before (ports.waiting now.gm.reply) (ports.waiting new.gm.reply) d.round.general general_left
         gave_general is in
         let gave' = given_before (ports.waiting now.event) (ports.waiting new.event) d.round.event event_left
         gave_event is' in
-        let spoke = given_before (waits_at ports port) (waits_at ports port') (listed d.spoken) spoken_left k.obeys.given is_spoken in
-        let quiet_before : ¬ HasRisen (faults_at ports port0) (faults_at ports port) =
-        λ rises. quiet (rises_first (faults_at ports port0) (faults_at ports port) (faults_at ports port') rises k.obeys.no_fall) in
-        let quiet_now : ¬ HasRisen (faults_at ports port) (faults_at ports port') =
-        λ rises. quiet (rises_second (faults_at ports port0) (faults_at ports port) (faults_at ports port') h.no_fall rises) in
         let earlier = h.all given (d.round.general ++ general_left) (d.round.event ++ event_left) (listed d.spoken ++ spoken_left)
-        (omega (arith, still, k.failed)) quiet_before was waits (gave, gave') spoke in
+        (omega (arith, still, k.failed)) (quiet_before quiet) was waits (gave, gave') (spoke spoken_left is_spoken) in
         let how = if_told _ (ports.waiting new.gm.reply) general_left is
         (kept_fact _ (ports.waiting k.told.gm.reply) (ports.waiting new.gm.reply) k.waits.general_given
         (kept_fact _ (ports.waiting k.turned.gm.reply) (ports.waiting k.told.gm.reply) k.obeys.ran.general_given
@@ -355,21 +375,18 @@ module _ {P C : Type 0} (ports : Ports P) (clocks : Clocks C) where
         (kept_fact _ (ports.waiting k.turned.event) (ports.waiting k.told.event) k.obeys.ran.event_given
         (k.did.event_drains (omega (arith, still, k.failed))))) in
         let next : suc before ≡ before + 1 = omega arith in
-        let heard = next_spoken before d.spoken spoken_left given.spoken earlier.3
-        (none_left d.spoken (waits_at ports port') spoken_left is_spoken (k.obeys.drained quiet_now)) in
         let round_is : d.round ≡ round_given given before =
         ap₂ (λ (l m : List Arrival). record { general = l; event = m })
-        (next_taken before d.round.general general_left given.general earlier.1 how)
-        (next_taken before d.round.event event_left given.event earlier.2 how') in (
+        (next_taken before d.round.general general_left given.general earlier.2 how)
+        (next_taken before d.round.event event_left given.event earlier.3 how') in (
           happens_from-push settings h.done before d h.taken
               ∙ ap₂ (λ l m. l ++ m) earlier.0
-              (ap₂ (λ r s. round_with settings before r ++ happens_by (order_in settings s)) round_is (sym heard.0))
+              (ap₂ (λ r s. round_with settings before r ++ happens_by (order_in settings s)) round_is
+              (sym (heard_now given.spoken spoken_left quiet waits is_spoken).0))
               ∙ ap (in_rounds (round_of settings given)) next,
-          next_left before d.round.general general_left given.general earlier.1 how,
-          next_left before d.round.event event_left given.event earlier.2 how',
-          heard.1,
-          are_spoken-push h.done d given.spoken earlier.4
-              (ap (slice_get given.spoken) (many_done h.done before h.taken) ∙ heard.0),
+          are_rounds-push given h.done before d h.taken earlier.1 round_is,
+          next_left before d.round.general general_left given.general earlier.2 how,
+          next_left before d.round.event event_left given.event earlier.3 how',
         )
 
     pub did_more : (r : DidRounds ports clocks settings (before + 1) old new port0 port' (after.tally)) × (r.done ≡ h.done ++ d ∷ [])
@@ -391,6 +408,7 @@ module _ {P C : Type 0} (ports : Ports P) (clocks : Clocks C) where
         failed = h.failed + k.obeys.failed;
         unheard = h.unheard + k.obeys.missed;
         answers = λ opening past stood. (counted opening past stood, answered opening past stood);
+        heard = heard;
         all = all;
       },
       refl,

@@ -89,7 +89,7 @@ after_is gm [] = refl
 after_is gm (x ∷ xs) = after_is (standing_after gm x) xs
 
 -- the class after more events
-class_more : (class : ℕ) (xs ys : List GmEvent) → class_after class (xs ++ ys) ≡ class_after (class_after class xs) ys
+pub class_more : (class : ℕ) (xs ys : List GmEvent) → class_after class (xs ++ ys) ≡ class_after (class_after class xs) ys
 class_more class [] ys = refl
 class_more class (x ∷ xs) ys = class_more (class_by class x) xs ys
 

@@ -16,9 +16,9 @@ use Rattle.ptu_config.specs.declared.command.Command.TheVariants as commands
 use Rattle.ptu_outside.specs.{Handed.{WasHanded}, Rounds.{in_rounds, timed}, Taken.{HappenedAt, Round}}
 use Rattle.ptu_daemon.specs.{Events.{Given, Happening, round_given, round_with}, Sends.{Standing, after_all, sends_by}}
 
--- ---- what is order_asked for
+-- ---- what is asked for
 
--- what is order_asked for by what was taken of a control port with this key
+-- what is asked for by what was taken of a control port with this key
 abbrev pub order_with : ℕ → Option Arrival → Option (Result Command Cause)
 order_with key None = None
 order_with key (Some arrival) = order_asked key arrival.bytes
@@ -39,9 +39,9 @@ happens_by (Some (Ok (commands.Capacity capacity))) = (λ t. events.Capacity t c
 happens_by (Some (Ok (commands.Stop cancels))) = ended_by cancels
 happens_by _ = []
 
--- ---- what is answer_sent
+-- ---- what is answered
 
--- a grandmaster that is order_asked: it stands so, in the round of this number, and so much was sent and failed
+-- a grandmaster that is asked: it stands so, in the round of this number, and so much was sent and failed
 pub record Situation : Type 0 where
   pub gm : Standing
   pub round : ℕ
@@ -78,7 +78,7 @@ command_reply s (commands.Stop cancels) obeyed = IsDone
 abbrev pub answer_sent : Reply → Departure
 answer_sent reply = record { ip = 0x7F000001; channel = channels.General; bytes = reply_text reply }
 
--- what is answer_sent to an order, and nothing where there is none
+-- what is answered to an order, and nothing where there is none
 abbrev pub order_answers : Situation → Option (Result Command Cause) → List GmEvent → List Departure
 order_answers s None obeyed = []
 order_answers s (Some (Err cause)) obeyed = answer_sent (Bad cause) ∷ []
@@ -149,7 +149,7 @@ AreAll settings (suc count) (d ∷ later) = EndsOr (is_last settings d) later (A
 
 -- ---- all answers
 
--- what a grandmaster that stands so knows in such a round, when it is order_asked
+-- what a grandmaster that stands so knows in such a round, when it is asked
 abbrev pub situation_in : Standing → ℕ → DoneRound → Situation
 situation_in gm before d =
     record { gm = after_all gm d.events; round = before + 1; sent = d.sent; failed = d.failed }
@@ -181,6 +181,12 @@ AreCounted gm before made (d ∷ later) =
     IsCounted gm before made d
     × AreCounted (after_all gm (events_in d)) (before + 1) (made + many_from gm (events_in d)) later
 
+-- each round took the next of these of the control port, or nothing where there is none left
+abbrev pub AreSpoken : List DoneRound → List Arrival → Type 0
+AreSpoken [] waiting = Unit {0}
+AreSpoken (d ∷ later) [] = (d.spoken ≡ None) × AreSpoken later []
+AreSpoken (d ∷ later) (arrival ∷ waiting) = (d.spoken ≡ Some arrival) × AreSpoken later waiting
+
 -- ---- where all is given
 
 -- what happens in a round before which there were so many: the next datagram of the control port is obeyed last
@@ -188,6 +194,11 @@ abbrev pub round_of : GmSettings → Given → ℕ → List Happening
 round_of settings given before =
     round_with settings before (round_given given before)
     ++ happens_by (order_in settings (slice_get given.spoken before))
+
+-- each of these rounds, before the first of which there were so many, took of the two channels what a round takes where this is given
+abbrev pub AreRoundsOf : Given → ℕ → List DoneRound → Type 0
+AreRoundsOf given before [] = Unit {0}
+AreRoundsOf given before (d ∷ later) = (d.round ≡ round_given given before) × AreRoundsOf given (before + 1) later
 
 -- how many rounds are done of so many, each of which takes the next of these: up to the first that is told to be the last
 abbrev pub rounds_until : GmSettings → ℕ → List Arrival → ℕ

@@ -2,6 +2,7 @@ pub mod Events
 pub mod Sends
 pub mod Commands
 pub mod Served
+pub mod Asked
 pub mod Lawful
 pub mod Answers
 pub mod Serving

@@ -12,7 +12,7 @@ use Rattle.ptu_outside.specs.Rounds.{in_rounds, left_after}
 use Rattle.ptu_outside.specs.Taken.{Gave, HaveTaken, event_of, general_of}
 use Rattle.ptu_outside.specs.declared.tally.Tally.{Tally}
 use Rattle.ptu_daemon.specs.declared.{daemon.Daemon.{Daemon}, obeying.Obeyed.{Obeyed}}
-use Rattle.ptu_daemon.specs.Commands.{AreAll, AreCounted, DoneRound, HaveHappened, Situation, order_answers, answer_sent, answers_from, done_events, happens_by, happens_from, is_last, listed, order_with, faults_at, command_reply, round_of, rounds_of, spoken_of, waits_at}
+use Rattle.ptu_daemon.specs.Commands.{AreAll, AreCounted, AreRoundsOf, AreSpoken, DoneRound, HaveHappened, Situation, order_answers, answer_sent, answers_from, done_events, happens_by, happens_from, is_last, listed, order_with, faults_at, command_reply, round_of, rounds_of, spoken_of, waits_at}
 use Rattle.ptu_daemon.specs.{Events.{Given}, Sends.{Standing}}
 use Rattle.ptu_daemon.specs.Ran.{DidRound, Handled, IsSmall, Ran, standing_as}
 
@@ -57,7 +57,7 @@ pub record Executed {P C : Type 0} (ports : Ports P) (clocks : Clocks C) (comman
       reply ≡ command_reply (situation_at (standing_as old.gm opening past) before tally) command ran.events
   pub small : IsSmall 1 more
 
--- it did what is asked, and answer_sent by its control port
+-- it did what is asked, and answered by its control port
 pub record Follows {P C : Type 0} (ports : Ports P) (clocks : Clocks C) (order : Option (Result Command Cause)) (before : ℕ) (tally : Tally)
     (old new : Daemon P C) (port port' : Option P) (obeyed : Obeyed) : Type 0 where
   pub ran : Ran ports clocks old new (happens_by order) [] [] obeyed.tally.sent obeyed.tally.failed 0
@@ -108,12 +108,6 @@ pub record DidWhole {P C : Type 0} (ports : Ports P) (clocks : Clocks C) (settin
 abbrev pub Waits : {P C : Type 0} → Ports P → Daemon P C → List Arrival → List Arrival → Type 0
 Waits ports daemon general event = (ports.waiting daemon.gm.reply ≡ Some general) × (ports.waiting daemon.event ≡ Some event)
 
--- each round took the next of these of the control port, or nothing where there is none left
-abbrev pub AreSpoken : List DoneRound → List Arrival → Type 0
-AreSpoken [] waiting = Unit {0}
-AreSpoken (d ∷ later) [] = (d.spoken ≡ None) × AreSpoken later []
-AreSpoken (d ∷ later) (arrival ∷ waiting) = (d.spoken ≡ Some arrival) × AreSpoken later waiting
-
 -- the daemon did so many rounds, where none but the last may have been told to be the last
 pub record DidRounds {P C : Type 0} (ports : Ports P) (clocks : Clocks C) (settings : GmSettings) (rounds : ℕ) (old new : Daemon P C) (port port' : Option P)
     (tally : Tally) : Type 0 where
@@ -133,13 +127,15 @@ pub record DidRounds {P C : Type 0} (ports : Ports P) (clocks : Clocks C) (setti
   pub answers : (opening : ℕ) (past : List Record) → StandsFor opening old.gm past →
       let gm = standing_as old.gm opening past in
       AreCounted gm 0 0 done × HandledAt ports (answers_from settings gm 0 done) sent failed unheard port port'
-  -- where nothing failed, what each took is what waited
+  -- where no count of the control port rose, each took the next that waited there, whatever failed elsewhere
+  pub heard : (waiting left : List Arrival) → ¬ HasRisen (faults_at ports port) (faults_at ports port') →
+      waits_at ports port ≡ Some waiting → waits_at ports port' ≡ Some left → (left ≡ drop rounds waiting) × AreSpoken done waiting
+  -- where nothing failed, what each took of the two channels is what waited, too
   pub all : (given : Given) (general_left event_left spoken_left : List Arrival) → tally.failed ≡ 0 → ¬ HasRisen (faults_at ports port) (faults_at ports port') →
       Waits ports old given.general given.event → waits_at ports port ≡ Some given.spoken →
       Waits ports new general_left event_left → waits_at ports port' ≡ Some spoken_left →
-      (happens_from settings 0 done ≡ in_rounds (round_of settings given) rounds)
+      (happens_from settings 0 done ≡ in_rounds (round_of settings given) rounds) × AreRoundsOf given 0 done
       × (general_left ≡ left_after rounds given.general) × (event_left ≡ left_after rounds given.event)
-      × (spoken_left ≡ drop rounds given.spoken) × AreSpoken done given.spoken
 
 -- it did all rounds that were to be done, which are so many
 pub record DidAll {P C : Type 0} (ports : Ports P) (clocks : Clocks C) (settings : GmSettings) (rounds : ℕ) (old new : Daemon P C) (port port' : Option P)

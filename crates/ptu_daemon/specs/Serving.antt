@@ -1,15 +1,15 @@
 -- What a call that serves has done with the ports and clocks that it opened.
-use Rattle.std.specs.Prelude.{◌≡◌, ◌≤◌, ◌⊎◌, ℕ, ◌+◌, ◌*◌, List, map, Option, Some, None, IsSome, IfSome}
+use Rattle.std.specs.Prelude.{◌≡◌, ◌≤◌, ◌⊎◌, ℕ, ◌+◌, ◌*◌, List, [], map, Option, Some, None, IsSome, IfSome}
 use Rattle.std.specs.List.{AllByRecursion}
 use Rattle.ptu_outside.specs.declared.{arrival.Arrival.{Arrival}, clock.Clock.{Ghosts as Clocks}}
 use Rattle.ptu_outside.specs.declared.{opened.Opened.{Opened}, port.Port.{Ghosts as Ports}}
-use Rattle.ptu_outside.specs.Telling.{IfTold}
+use Rattle.ptu_outside.specs.{Faults.{HasRisen}, Telling.{IfTold}}
 use Rattle.ptu_grandmaster.specs.declared.driving.GmEvent.{GmEvent}
 use Rattle.ptu_config.specs.{declared.settings.GmSettings.{GmSettings}, Rounds.{all_rounds}}
 use Rattle.ptu_outside.specs.{Handed.{FailuresAre, WereHanded}, Ports.{HaveNotRisen, WereSent, senders_of}}
 use Rattle.ptu_outside.specs.Taken.{Gave, HaveTaken, event_of, general_of}
 use Rattle.ptu_lanes.specs.{Sending.{GoesOn, WasSent}, Served.{ServesByLanes, faults_of}}
-use Rattle.ptu_daemon.specs.Commands.{AreAll, AreCounted, DoneRound, HaveHappened, IsSpoken, WasHandedAt, answers_from, done_events, happens_from, many_from, rounds_of, spoken_of, waits_at}
+use Rattle.ptu_daemon.specs.Commands.{AreAll, AreCounted, AreRoundsOf, AreSpoken, DoneRound, HaveHappened, IsSpoken, WasHandedAt, answers_from, done_events, faults_at, happens_from, many_from, rounds_of, spoken_of, waits_at}
 use Rattle.ptu_daemon.specs.{Events.{Given, Takes, config_of}, Lawful.{IsLawful}}
 use Rattle.ptu_daemon.specs.Served.{Said, numbers_in, opened_as, served_by, served_said}
 use Rattle.ptu_daemon.specs.Sends.{sends_by}
@@ -65,6 +65,9 @@ pub record Happened {P C : Type 0} (ports : Ports P) (clocks : Clocks C) (settin
   pub general : Gave (ports.waiting opened.p4) (ports.waiting closed.p4) (general_of (rounds_of done))
   pub event : Gave (ports.waiting opened.p5) (ports.waiting closed.p5) (event_of (rounds_of done))
   pub spoken : Gave (waits_at ports control) (waits_at ports control') (spoken_of done)
+  -- where that still tells, and its count did not rise, each round took the next that waited there, whatever failed elsewhere
+  pub heard : (waiting : List Arrival) → waits_at ports control ≡ Some waiting → IsSome (waits_at ports control') →
+      ¬ HasRisen (faults_at ports control) (faults_at ports control') → AreSpoken done waiting
   -- they are all rounds, or less where one was told to be the last
   pub all : AreAll settings (all_rounds settings) done
   -- the events are what happens in such rounds: each at some moment, which is the next of clock 0 where that still tells its moments
@@ -84,6 +87,10 @@ pub record Happened {P C : Type 0} (ports : Ports P) (clocks : Clocks C) (settin
   pub once : missed ≤ 2 * said.rounds
   pub each : said.sent + said.failed ≡ many_by settings (done_events done) + missed
 
+-- none of these rounds took or obeyed anything of a control port
+abbrev pub AreUnspoken : List DoneRound → Type 0
+AreUnspoken done = AllByRecursion (λ (d : DoneRound). (d.spoken ≡ None) × (d.obeyed ≡ [])) done
+
 -- between these ports and clocks as they were opened, and as they are to be given back, and the control port, where there is one, this was
 -- said of the serving; of the control port no fault is counted
 pub record Serves {P C : Type 0} (ports : Ports P) (clocks : Clocks C) (settings : GmSettings) (opened closed : Opened P C) (control control' : Option P)
@@ -95,9 +102,14 @@ pub record Serves {P C : Type 0} (ports : Ports P) (clocks : Clocks C) (settings
   pub sent : WereSent said.sent (map ports.sent (senders_of opened)) (map ports.sent (senders_of closed))
   -- and they are a part of what the events make the grandmaster send, which are those that came
   pub happened : Happened ports clocks settings opened closed control control' said
+  -- without a control port each round is done, and nothing comes but of the two channels
+  pub alone : control ≡ None → (said.rounds ≡ all_rounds settings) × AreUnspoken happened.done
   -- where no count rose, it is what is served
   pub served : (given : Given) → IsGiven ports clocks opened closed given → IsSpoken ports control control' given →
       HaveNotRisen (faults_of ports opened) (faults_of ports closed) → AreServed ports settings given opened closed said
+  -- and each round took what is given for it, so that each answer is by just what came before it
+  pub by_rounds : (given : Given) → IsGiven ports clocks opened closed given → IsSpoken ports control control' given →
+      HaveNotRisen (faults_of ports opened) (faults_of ports closed) → AreRoundsOf given 0 happened.done
   -- the other clocks are given back as they were opened
   pub c1 : closed.c1 ≡ opened.c1
   pub c2 : closed.c2 ≡ opened.c2

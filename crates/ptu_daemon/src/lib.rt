@@ -4,6 +4,7 @@
 #![tactic(auto)]
 
 mod closing;
+mod command_laws;
 mod control;
 mod daemon;
 mod events;
@@ -17,6 +18,9 @@ mod two_step;
 mod two_steps;
 mod twostep_laws;
 
+pub use command_laws::{
+    nothing_is_held_after_a_cancelling_stop, other_keys_ask_nothing, other_ports_command_nothing,
+};
 pub use laws::{sends_are_lawful, sends_no_half};
 pub use ptu_outside::DaemonFault;
 pub use serving::{serve, serve_within};

@@ -137,7 +137,10 @@ impl<P: Port, C: Clock> Daemon<P, C> {
                 Ok((Reply::Shed(changed.sent + changed.failed), changed))
             }
             Command::Status => Ok((Reply::Stands(self.status(before, tally)), Tally::default())),
-            Command::Stop { cancels } => Ok((Reply::Done, self.end_grants(cancels)?)),
+            Command::Stop { cancels } => {
+                let ended = self.end_grants(cancels)?;
+                Ok((Reply::Done, ended))
+            }
         }
     }
 

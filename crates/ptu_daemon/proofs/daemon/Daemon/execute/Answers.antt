@@ -12,8 +12,8 @@ returns-in-Status g c =
     executed_status g.P.Port g.C.Clock c.args.command c.args.before c.args.tally.now c.args.self.now c.status.result c.default-in-Status.result
     c.in-Status.is c.default-in-Status.ensures c.status.ensures
 
-pub returns-in_ok-end_grants-in-Stop : goal.returns-in_ok-end_grants-in-Stop
-returns-in_ok-end_grants-in-Stop g c =
-    let e = c.in_ok-end_grants-in-Stop in
-    executed_stop g.P.Port g.C.Clock c.args.command c.in-Stop.cancels c.args.before c.args.tally.now c.args.self.now c.end_grants.new.self e.end_grants
+pub returns-in_ok-ended-in-Stop : goal.returns-in_ok-ended-in-Stop
+returns-in_ok-ended-in-Stop g c =
+    let e = c.in_ok-ended-in-Stop in
+    executed_stop g.P.Port g.C.Clock c.args.command c.in-Stop.cancels c.args.before c.args.tally.now c.args.self.now c.end_grants.new.self e.ended
     c.in-Stop.is e.ensures.ran e.ensures.small
