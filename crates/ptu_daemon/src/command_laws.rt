@@ -3,7 +3,8 @@
 
 ghost use Rattle.std.specs.Prelude.{◌≡◌, ◌∷◌, ◌++◌, [], ℕ, List, true, false, Some, Ok};
 ghost use Rattle.ptu_outside.specs.declared.arrival.Arrival.{Arrival};
-ghost use Rattle.ptu_config.specs.{declared.settings.GmSettings.{GmSettings}, Commands.{is_known, line_of}};
+ghost use Rattle.ptu_config.specs.Commands.{is_known, line_of};
+ghost use Rattle.ptu_config.specs.declared.settings.GmSettings.{GmSettings};
 ghost use Rattle.ptu_config.specs.declared.command.Command.{Command};
 ghost use Rattle.ptu_daemon.specs.Asked.{AsksNothing, CommandNothing};
 ghost use Rattle.ptu_daemon.specs.Commands.{DoneRound, HaveHappened};

@@ -5,7 +5,8 @@ ghost use Rattle.ptu_grandmaster.specs.declared.driving.GmEvent.{GmEvent};
 ghost use Rattle.ptu_config.specs.Limits.{IsGmInRange};
 ghost use Rattle.ptu_daemon.specs.Events.{change_in, change_to, taking, turns};
 ghost use Rattle.ptu_daemon.specs.Obeying.{DidAll, DidWhole};
-ghost use Rattle.ptu_daemon.specs.Ran.{CameTo, DidRound, IsSmall, Ran, Received, Receives, TookChannel, arrived};
+ghost use Rattle.ptu_daemon.specs.Ran.{CameTo, DidRound, IsSmall, Ran, Received, Receives};
+ghost use Rattle.ptu_daemon.specs.Ran.{TookChannel, arrived};
 
 use crate::events;
 use crate::next::Next;
