@@ -7,8 +7,8 @@ use Rattle.ptu_outside.specs.declared.arrival.Arrival.{Arrival}
 use Rattle.ptu_grandmaster.specs.declared.driving.GmEvent.{GmEvent}
 use Rattle.ptu_config.specs.Commands.{is_stop_order}
 use Rattle.ptu_outside.specs.Taken.{HappenedAt, HaveTaken, Round}
-use Rattle.ptu_daemon.specs.Commands.{AreAll, AreCounted, AreSpoken, DoneRound, EndsOr, HaveHappened, IsCounted, order_answers, answers_from, events_in, done_events, happens_by, happens_from, happens_in, is_last, listed, many_from, order_in, rounds_of, rounds_until, situation_in, spoken_of}
-use Rattle.ptu_daemon.specs.{Events.{Happening, round_with}, Sends.{Standing, after_all, sends_by}}
+use Rattle.ptu_daemon.specs.Commands.{AreAll, AreCounted, AreRoundsOf, AreSpoken, DoneRound, EndsOr, HaveHappened, IsCounted, order_answers, answers_from, events_in, done_events, happens_by, happens_from, happens_in, is_last, listed, many_from, order_in, rounds_of, rounds_until, situation_in, spoken_of}
+use Rattle.ptu_daemon.specs.{Events.{Given, Happening, round_given, round_with}, Sends.{Standing, after_all, sends_by}}
 use Rattle.ptu_daemon.proofs.Running.{after_all-append, sends_by-append}
 
 -- ---- one round more at the end
@@ -147,6 +147,23 @@ pub within-push : (ds : List DoneRound) (d : DoneRound) (sent failed sent' faile
 within-push [] d sent failed sent' failed' s f h one = (one, tt)
 within-push (x ∷ ds) d sent failed sent' failed' s f (a, h) one =
     ((omega (arith, a.0, s), omega (arith, a.1, f)), within-push ds d sent failed sent' failed' s f h one)
+
+-- ---- what each took of the channels
+
+rounds_given-push : (given : Given) (before : ℕ) (ds : List DoneRound) (d : DoneRound) → AreRoundsOf given before ds →
+    d.round ≡ round_given given (before + length ds) → AreRoundsOf given before (ds ++ d ∷ [])
+rounds_given-push given before [] d h is =
+    let none : before + 0 ≡ before = omega arith in
+    (is ∙ ap (round_given given) none, tt)
+rounds_given-push given before (x ∷ ds) d (a, h) is =
+    let more : before + length (x ∷ ds) ≡ before + 1 + length ds = omega arith in
+    (a, rounds_given-push given (before + 1) ds d h (is ∙ ap (round_given given) more))
+
+pub are_rounds-push : (given : Given) (ds : List DoneRound) (count : ℕ) (d : DoneRound) → HaveTaken (rounds_of ds) count → AreRoundsOf given 0 ds →
+    d.round ≡ round_given given count → AreRoundsOf given 0 (ds ++ d ∷ [])
+are_rounds-push given ds count d taken h is =
+    let many : count ≡ 0 + length ds = omega (arith, many_done ds count taken) in
+    rounds_given-push given 0 ds d h (is ∙ ap (round_given given) many)
 
 -- ---- what each took of the control port
 

@@ -18,7 +18,7 @@ use Rattle.ptu_outside.specs.Ports.{HaveNotRisen, HaveRisenBy, HaveRisenJust, We
 use Rattle.ptu_outside.specs.{Handed.{WasHanded, WereHanded}, Taken.{Gave, HaveTaken, event_of, general_of}}
 use Rattle.ptu_outside.specs.Rounds.{in_rounds, timed}
 use Rattle.ptu_outside.specs.declared.tally.Tally.{Tally}
-use Rattle.ptu_daemon.specs.Commands.{AreCounted, DoneRound, IsSpoken, WasHandedAt, answers_from, done_events, happens_from, round_of, rounds_done, rounds_of, served_events, spoken_of, waits_at}
+use Rattle.ptu_daemon.specs.Commands.{AreCounted, AreRoundsOf, DoneRound, IsSpoken, WasHandedAt, answers_from, done_events, happens_from, round_of, rounds_done, rounds_of, served_events, spoken_of, waits_at}
 use Rattle.ptu_daemon.specs.Events.{Given, Happening, Takes, config_of}
 use Rattle.ptu_daemon.specs.Obeying.{DidAll, DidRounds, HandledAt}
 use Rattle.ptu_daemon.specs.Ran.{AllHandled, Handled, five, standing_as}
@@ -314,6 +314,7 @@ module _ {P C : Type 0} (ports : Ports P) (clocks : Clocks C) where
       none = sym failed_is ∙ none_together said.failed (faults_of ports opened) (faults_of ports closed) risen still
 
       all_taken : (happens_from settings 0 did.done ≡ in_rounds (round_of settings given) rounds) × (rounds ≡ rounds_done settings given)
+          × AreRoundsOf given 0 did.done
       all_taken =
           let general = some_is (ports.waiting closed.p4) is.general_still in
           let event_left = some_is (ports.waiting closed.p5) is.event_still in
@@ -324,7 +325,11 @@ module _ {P C : Type 0} (ports : Ports P) (clocks : Clocks C) where
             taken.0,
             sym (many_done did.done rounds did.taken) ∙ rounds_are settings (all_rounds settings) did.done given.spoken whole.all
                 (did.heard given.spoken spoken_left.0 spoke.still spoke.waits spoken_left.1).1,
+            taken.1,
           )
+
+      by_rounds : AreRoundsOf given 0 did.done
+      by_rounds = all_taken.2
 
       happened : happens_from settings 0 did.done ≡ in_rounds (round_of settings given) (rounds_done settings given)
       happened = all_taken.0 ∙ ap (in_rounds (round_of settings given)) all_taken.1
@@ -396,6 +401,7 @@ module _ {P C : Type 0} (ports : Ports P) (clocks : Clocks C) where
       happened = has_happened;
       alone = alone;
       served = are_served;
+      by_rounds = by_rounds;
       c1 = k1;
       c2 = k2;
       c3 = k3;

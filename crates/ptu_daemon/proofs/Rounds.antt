@@ -13,11 +13,11 @@ use Rattle.ptu_outside.specs.{Rounds.{in_rounds, left_after, taken_in}, Taken.{G
 use Rattle.ptu_outside.proofs.Taken.{event_of-push, general_of-push, have_taken-none, have_taken-push}
 use Rattle.ptu_outside.specs.declared.tally.Tally.{Tally}
 use Rattle.ptu_daemon.specs.declared.{daemon.Daemon.{Daemon}, obeying.Obeyed.{Obeyed}}
-use Rattle.ptu_daemon.specs.Commands.{AreAll, AreCounted, AreSpoken, DoneRound, order_answers, answers_from, done_events, faults_at, happens_by, happens_from, is_last, listed, many_from, order_in, round_of, rounds_of, spoken_of, waits_at}
+use Rattle.ptu_daemon.specs.Commands.{AreAll, AreCounted, AreRoundsOf, AreSpoken, DoneRound, order_answers, answers_from, done_events, faults_at, happens_by, happens_from, is_last, listed, many_from, order_in, round_of, rounds_of, spoken_of, waits_at}
 use Rattle.ptu_daemon.specs.Events.{Given, change_in, round_given, round_with, taking, turns}
 use Rattle.ptu_daemon.specs.Obeying.{DidAll, DidRounds, DidWhole, HandledAt, Waits}
 use Rattle.ptu_daemon.specs.{Ran.{DidRound, IsSmall, Ran, TookChannel, five, standing_as}, Sends.{Standing, after_all, sends_by}}
-use Rattle.ptu_daemon.proofs.Commands.{GoOn, all_gone, answers_from-push, are_counted-push, are_spoken-push, events_of-push, go_on-push, happens_from-push, have_happened-push, many_done, many_from-append, one_last, rounds_of-push, spoken_of-push, within-push}
+use Rattle.ptu_daemon.proofs.Commands.{GoOn, all_gone, answers_from-push, are_counted-push, are_rounds-push, are_spoken-push, events_of-push, go_on-push, happens_from-push, have_happened-push, many_done, many_from-append, one_last, rounds_of-push, spoken_of-push, within-push}
 use Rattle.ptu_daemon.proofs.Handling.{all_within, five_each, handled_more, handled_same}
 use Rattle.ptu_daemon.proofs.Running.{after_all-append, after_is, gives_more, gives_none, none_happened, ran_as, ran_as_with, ran_more, ran_more_with, ran_none}
 
@@ -152,6 +152,7 @@ module _ {P C : Type 0} (ports : Ports P) (clocks : Clocks C) where
           heard = λ waiting left quiet u u'. (same waiting left (waits_at ports port) u u', tt);
           all = λ given general_left event_left spoken_left still quiet (w, w') u (v, v') u'. (
             refl,
+            tt,
             one given.general general_left (ports.waiting daemon.gm.reply) w v,
             one given.event event_left (ports.waiting daemon.event) w' v',
           );
@@ -355,7 +356,7 @@ module _ {P C : Type 0} (ports : Ports P) (clocks : Clocks C) where
     all : (given : Given) (general_left event_left spoken_left : List Arrival) → after.tally.failed ≡ 0 → ¬ HasRisen (faults_at ports port0) (faults_at ports port') →
         Waits ports old given.general given.event → waits_at ports port0 ≡ Some given.spoken →
         Waits ports new general_left event_left → waits_at ports port' ≡ Some spoken_left →
-        (happens_from settings 0 (h.done ++ d ∷ []) ≡ in_rounds (round_of settings given) (before + 1))
+        (happens_from settings 0 (h.done ++ d ∷ []) ≡ in_rounds (round_of settings given) (before + 1)) × AreRoundsOf given 0 (h.done ++ d ∷ [])
         × (general_left ≡ left_after (before + 1) given.general) × (event_left ≡ left_after (before + 1) given.event)
     unfolding in_rounds
     all given general_left event_left spoken_left still quiet was waits (is, is') is_spoken =
@@ -376,15 +377,16 @@ module _ {P C : Type 0} (ports : Ports P) (clocks : Clocks C) where
         let next : suc before ≡ before + 1 = omega arith in
         let round_is : d.round ≡ round_given given before =
         ap₂ (λ (l m : List Arrival). record { general = l; event = m })
-        (next_taken before d.round.general general_left given.general earlier.1 how)
-        (next_taken before d.round.event event_left given.event earlier.2 how') in (
+        (next_taken before d.round.general general_left given.general earlier.2 how)
+        (next_taken before d.round.event event_left given.event earlier.3 how') in (
           happens_from-push settings h.done before d h.taken
               ∙ ap₂ (λ l m. l ++ m) earlier.0
               (ap₂ (λ r s. round_with settings before r ++ happens_by (order_in settings s)) round_is
               (sym (heard_now given.spoken spoken_left quiet waits is_spoken).0))
               ∙ ap (in_rounds (round_of settings given)) next,
-          next_left before d.round.general general_left given.general earlier.1 how,
-          next_left before d.round.event event_left given.event earlier.2 how',
+          are_rounds-push given h.done before d h.taken earlier.1 round_is,
+          next_left before d.round.general general_left given.general earlier.2 how,
+          next_left before d.round.event event_left given.event earlier.3 how',
         )
 
     pub did_more : (r : DidRounds ports clocks settings (before + 1) old new port0 port' (after.tally)) × (r.done ≡ h.done ++ d ∷ [])

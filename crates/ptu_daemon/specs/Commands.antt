@@ -195,6 +195,11 @@ round_of settings given before =
     round_with settings before (round_given given before)
     ++ happens_by (order_in settings (slice_get given.spoken before))
 
+-- each of these rounds, before the first of which there were so many, took of the two channels what a round takes where this is given
+abbrev pub AreRoundsOf : Given → ℕ → List DoneRound → Type 0
+AreRoundsOf given before [] = Unit {0}
+AreRoundsOf given before (d ∷ later) = (d.round ≡ round_given given before) × AreRoundsOf given (before + 1) later
+
 -- how many rounds are done of so many, each of which takes the next of these: up to the first that is told to be the last
 abbrev pub rounds_until : GmSettings → ℕ → List Arrival → ℕ
 rounds_until settings zero spoken = 0

@@ -12,7 +12,7 @@ use Rattle.ptu_outside.specs.Rounds.{in_rounds, left_after}
 use Rattle.ptu_outside.specs.Taken.{Gave, HaveTaken, event_of, general_of}
 use Rattle.ptu_outside.specs.declared.tally.Tally.{Tally}
 use Rattle.ptu_daemon.specs.declared.{daemon.Daemon.{Daemon}, obeying.Obeyed.{Obeyed}}
-use Rattle.ptu_daemon.specs.Commands.{AreAll, AreCounted, AreSpoken, DoneRound, HaveHappened, Situation, order_answers, answer_sent, answers_from, done_events, happens_by, happens_from, is_last, listed, order_with, faults_at, command_reply, round_of, rounds_of, spoken_of, waits_at}
+use Rattle.ptu_daemon.specs.Commands.{AreAll, AreCounted, AreRoundsOf, AreSpoken, DoneRound, HaveHappened, Situation, order_answers, answer_sent, answers_from, done_events, happens_by, happens_from, is_last, listed, order_with, faults_at, command_reply, round_of, rounds_of, spoken_of, waits_at}
 use Rattle.ptu_daemon.specs.{Events.{Given}, Sends.{Standing}}
 use Rattle.ptu_daemon.specs.Ran.{DidRound, Handled, IsSmall, Ran, standing_as}
 
@@ -134,7 +134,7 @@ pub record DidRounds {P C : Type 0} (ports : Ports P) (clocks : Clocks C) (setti
   pub all : (given : Given) (general_left event_left spoken_left : List Arrival) → tally.failed ≡ 0 → ¬ HasRisen (faults_at ports port) (faults_at ports port') →
       Waits ports old given.general given.event → waits_at ports port ≡ Some given.spoken →
       Waits ports new general_left event_left → waits_at ports port' ≡ Some spoken_left →
-      (happens_from settings 0 done ≡ in_rounds (round_of settings given) rounds)
+      (happens_from settings 0 done ≡ in_rounds (round_of settings given) rounds) × AreRoundsOf given 0 done
       × (general_left ≡ left_after rounds given.general) × (event_left ≡ left_after rounds given.event)
 
 -- it did all rounds that were to be done, which are so many

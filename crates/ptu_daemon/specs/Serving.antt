@@ -9,7 +9,7 @@ use Rattle.ptu_config.specs.{declared.settings.GmSettings.{GmSettings}, Rounds.{
 use Rattle.ptu_outside.specs.{Handed.{FailuresAre, WereHanded}, Ports.{HaveNotRisen, WereSent, senders_of}}
 use Rattle.ptu_outside.specs.Taken.{Gave, HaveTaken, event_of, general_of}
 use Rattle.ptu_lanes.specs.{Sending.{GoesOn, WasSent}, Served.{ServesByLanes, faults_of}}
-use Rattle.ptu_daemon.specs.Commands.{AreAll, AreCounted, AreSpoken, DoneRound, HaveHappened, IsSpoken, WasHandedAt, answers_from, done_events, faults_at, happens_from, many_from, rounds_of, spoken_of, waits_at}
+use Rattle.ptu_daemon.specs.Commands.{AreAll, AreCounted, AreRoundsOf, AreSpoken, DoneRound, HaveHappened, IsSpoken, WasHandedAt, answers_from, done_events, faults_at, happens_from, many_from, rounds_of, spoken_of, waits_at}
 use Rattle.ptu_daemon.specs.{Events.{Given, Takes, config_of}, Lawful.{IsLawful}}
 use Rattle.ptu_daemon.specs.Served.{Said, numbers_in, opened_as, served_by, served_said}
 use Rattle.ptu_daemon.specs.Sends.{sends_by}
@@ -107,6 +107,9 @@ pub record Serves {P C : Type 0} (ports : Ports P) (clocks : Clocks C) (settings
   -- where no count rose, it is what is served
   pub served : (given : Given) → IsGiven ports clocks opened closed given → IsSpoken ports control control' given →
       HaveNotRisen (faults_of ports opened) (faults_of ports closed) → AreServed ports settings given opened closed said
+  -- and each round took what is given for it, so that each answer is by just what came before it
+  pub by_rounds : (given : Given) → IsGiven ports clocks opened closed given → IsSpoken ports control control' given →
+      HaveNotRisen (faults_of ports opened) (faults_of ports closed) → AreRoundsOf given 0 happened.done
   -- the other clocks are given back as they were opened
   pub c1 : closed.c1 ≡ opened.c1
   pub c2 : closed.c2 ≡ opened.c2
