@@ -13,7 +13,7 @@ use Rattle.ptu_laws.proofs.{Capacity.{held-within}, Rests.{rate_sum-filter}}
 use Rattle.ptu_gm_messages.specs.Deciding.{opened_with}
 use Rattle.ptu_grandmaster.specs.declared.driving.{GmEvent.{GmEvent}, GmEvent.TheVariants.{Capacity}}
 use Rattle.ptu_grandmaster.specs.Driven.{events_of}
-use Rattle.ptu_config.specs.{declared.settings.GmSettings.{GmSettings}, Commands.{commanded, is_known, line_of, order_asked}}
+use Rattle.ptu_config.specs.{declared.settings.GmSettings.{GmSettings}, Commands.{commanded, is_known, request_line, order_asked}}
 use Rattle.ptu_config.specs.declared.{command.Cause.{Cause}, command.Command.{Command}}
 use Rattle.ptu_config.specs.declared.command.Command.TheVariants as commands
 use Rattle.ptu_daemon.specs.Asked.{AsksNothing, CommandNothing}
@@ -25,14 +25,14 @@ use Rattle.ptu_daemon.proofs.{Commands.{events_of-push}, Running.{class_more}}
 
 -- ---- another key
 
-unheard : (key : ℕ) (octets : List ℕ) → is_known key (line_of octets) ≡ false → order_asked key octets ≡ None
+unheard : (key : ℕ) (octets : List ℕ) → is_known key (request_line octets) ≡ false → order_asked key octets ≡ None
 unfolding order_asked
-unheard key octets other = ap (λ b. if b then Some (commanded (line_of octets)) else None) other
+unheard key octets other = ap (λ b. if b then Some (commanded (request_line octets)) else None) other
 
 none_asks : AsksNothing None
 none_asks = record { happens = refl; goes_on = refl; silent = λ s obeyed. refl }
 
-pub other_key : (key : ℕ) (arrival : Arrival) → is_known key (line_of arrival.bytes) ≡ false → AsksNothing (order_with key (Some arrival))
+pub other_key : (key : ℕ) (arrival : Arrival) → is_known key (request_line arrival.bytes) ≡ false → AsksNothing (order_with key (Some arrival))
 other_key key arrival other = subst AsksNothing (sym (unheard key arrival.bytes other)) none_asks
 
 -- ---- another port

@@ -3,7 +3,7 @@
 
 ghost use Rattle.std.specs.Prelude.{◌≡◌, ◌∷◌, ◌++◌, [], ℕ, List, true, false, Some, Ok};
 ghost use Rattle.ptu_outside.specs.declared.arrival.Arrival.{Arrival};
-ghost use Rattle.ptu_config.specs.Commands.{is_known, line_of};
+ghost use Rattle.ptu_config.specs.Commands.{is_known, request_line};
 ghost use Rattle.ptu_config.specs.declared.settings.GmSettings.{GmSettings};
 ghost use Rattle.ptu_config.specs.declared.command.Command.{Command};
 ghost use Rattle.ptu_daemon.specs.Asked.{AsksNothing, CommandNothing};
@@ -14,7 +14,7 @@ ghost use Rattle.ptu_daemon.specs.{Lawful.{history_by}, Served.{held_by}, Servin
 /// A datagram of the control port that is no line of plain text, or does not begin with the key,
 /// asks for nothing: nothing happens by it, it ends no rounds, and it is answered by nothing.
 pub fn other_keys_ask_nothing()
-    ensures { (key : ℕ) (arrival : Arrival) → is_known key (line_of arrival.bytes) ≡ false
+    ensures { (key : ℕ) (arrival : Arrival) → is_known key (request_line arrival.bytes) ≡ false
         → AsksNothing (order_with key (Some arrival)) }
 {}
 
