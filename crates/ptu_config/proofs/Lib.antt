@@ -7,5 +7,6 @@ pub mod Readings
 pub mod KeyNames
 pub mod Controls
 mod Heeded
+mod Unspoken
 mod Taking
 mod Answering

@@ -72,11 +72,14 @@ rule_of Masters = required master_tables
 abbrev pub common_keys : List Key
 common_keys = Ip ∷ EventPort ∷ GeneralPort ∷ Clock ∷ Port ∷ Domain ∷ Rounds ∷ Repeat ∷ []
 
+-- the settings of a grandmaster to which nobody speaks while it runs, in their order
+abbrev pub serving_keys : List Key
+serving_keys = common_keys
+    ++ Class ∷ Capacity ∷ MaxDuration ∷ Epoch ∷ Senders ∷ ChangeRound ∷ NewCapacity ∷ TwoStep ∷ []
+
 -- the settings of a grandmaster, in their order
 abbrev pub gm_keys : List Key
-gm_keys = common_keys
-    ++ Class ∷ Capacity ∷ MaxDuration ∷ Epoch ∷ Senders ∷ ChangeRound ∷ NewCapacity ∷ TwoStep
-    ∷ ControlPort ∷ ControlKey ∷ []
+gm_keys = serving_keys ++ ControlPort ∷ ControlKey ∷ []
 
 -- the settings of a slave, in their order
 abbrev pub slave_keys : List Key

@@ -8,7 +8,7 @@ ghost use Rattle.ptu_config.specs.declared.key.Key.{Key};
 ghost use Rattle.ptu_config.specs.declared.settings.GmSettings.{GmSettings};
 ghost use Rattle.ptu_config.specs.{declared.settings.SlaveSettings.{SlaveSettings}, Key.{name_of}};
 ghost use Rattle.ptu_config.specs.{Forms.{address_in, identity_in}, Masters.{masters_in}};
-ghost use Rattle.ptu_config.specs.Rules.{Value, gm_keys, slave_keys, setting_of, number, nothing};
+ghost use Rattle.ptu_config.specs.Rules.{Value, gm_keys, serving_keys, slave_keys, setting_of, number, nothing};
 ghost use Rattle.ptu_config.specs.Documents.{Reads, Says, document_of, refusal_of, table_refusal};
 ghost use Rattle.ptu_config.specs.Entries.{gm_entries, slave_entries};
 ghost use Rattle.ptu_config.specs.Examples.{gm_text, gm_document, gm_defaults, gm_spoken_to, gm_with, repeated, sample_key, two_masters};
@@ -77,15 +77,23 @@ pub fn settings_of_a_grandmaster()
     ensures no_delay_resp { setting_of no_members Key.LogDelay ≡ Some nothing }
 {}
 
-/// What a document says of the control port and of its key.
-#[tactic(auto, unfolding(crate::specs::Rules::setting_of))]
-pub fn control_of_a_grandmaster()
-    // Without the two keys nothing is said of them, and they refuse nothing.
-    ensures without { (document : Members) →
+/// A document without the two keys says nothing of a control port, and is refused, or not, as if
+/// there were no such settings.
+pub fn without_control()
+    ensures nothing { (document : Members) →
         get_member (name_of Key.ControlPort) document ≡ None →
         get_member (name_of Key.ControlKey) document ≡ None →
         (setting_of document Key.ControlPort ≡ Some nothing)
         × (setting_of document Key.ControlKey ≡ Some nothing) }
+    ensures refusals { (document : Members) →
+        get_member (name_of Key.ControlPort) document ≡ None →
+        get_member (name_of Key.ControlKey) document ≡ None →
+        table_refusal gm_keys document ≡ table_refusal serving_keys document }
+{}
+
+/// What a document says of the control port and of its key.
+#[tactic(auto, unfolding(crate::specs::Rules::setting_of))]
+pub fn control_of_a_grandmaster()
     ensures with_both { (table_refusal gm_keys (gm_spoken_to (integer (pos 8319)) sample_key)
         ≡ None) × (setting_of (gm_spoken_to (integer (pos 8319)) sample_key) Key.ControlPort
         ≡ Some (number 8319)) × (setting_of (gm_spoken_to (integer (pos 8319)) sample_key)

@@ -2,7 +2,7 @@
 
 use ptu_config::samples::GM_SETTINGS;
 use ptu_config::{MasterSetting, gm_settings, slave_settings};
-use ptu_units::{Capacity, Kind, Log};
+use ptu_units::{Capacity, Kind, Log, UdpPortNumber};
 use std::alloc::Global;
 use std::test::Fail;
 
@@ -20,12 +20,16 @@ fn settings_of_a_grandmaster(rt: HostRuntime) -> Result<(), Fail> {
     Ok(())
 }
 
-// The capacities that the settings of a grandmaster have, and how many rounds they make.
-fn gm_rounds(alloc: Global, text: &str) -> Result<(Capacity, Option<Capacity>, u64), Fail> {
+// What the settings of a grandmaster have that may be left out: a capacity, and a control port.
+type LeftOut = (Option<Capacity>, Option<UdpPortNumber>);
+
+// The capacity that the settings of a grandmaster have, what may be left out, and how many rounds
+// they make.
+fn gm_rounds(alloc: Global, text: &str) -> Result<(Capacity, LeftOut, u64), Fail> {
     let settings = gm_settings(alloc, text.as_bytes())?;
     Ok((
         settings.capacity,
-        settings.new_capacity,
+        (settings.new_capacity, settings.control_port),
         settings.all_rounds(),
     ))
 }
@@ -53,8 +57,8 @@ fn rounds_are_repeated(rt: HostRuntime) -> Result<(), Fail> {
         let mut gm = text.clone()?;
         gm.push_str("\ncapacity = 8\n")?;
         text.push_str("\n[[masters]]\nip = \"10.0.0.1\"\n")?;
-        let (capacity, new_capacity, rounds) = gm_rounds(rt.alloc(), gm.as_str())?;
-        assert!(rt; (capacity.get(), new_capacity, rounds) == (8, None, all));
+        let (capacity, left_out, rounds) = gm_rounds(rt.alloc(), gm.as_str())?;
+        assert!(rt; (capacity.get(), left_out, rounds) == (8, (None, None), all));
         assert_eq!(rt; slave_rounds(rt.alloc(), text.as_str())?, all);
     }
     Ok(())
