@@ -177,10 +177,10 @@ fn one_table_alone(rt: HostRuntime) -> Result<(), Fail> {
 }
 
 // How many grants are made, and how many of them a change of capacity sheds. Were all rows looked
-// at for each, that alone would take minutes.
-const MANY: u32 = 160_000;
+// at for each, `rt try --test`, which runs with checks, would meet its time limit of a minute.
+const MANY: u32 = 40_000;
 
-const MOST: u32 = 120_000;
+const MOST: u32 = 30_000;
 
 // A client, of any of the four tables, whose numbers grow with this one.
 fn client_of(number: u32) -> Client {
