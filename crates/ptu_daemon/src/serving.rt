@@ -275,8 +275,9 @@ pub fn serve_within<W: Threads + Wait + Sync, H: Host, K: Sink>(
 /// taken: where the system refuses one, all is served on this thread, as where `senders` is 0.
 ///
 /// # Errors
-/// `Open` where the host does not open; `Write` where the sink does not take the line; and
-/// `OutOfMemory`, after which the ports and clocks are dropped.
+/// `Open` where the host does not open, or not the control port, after which the ports and clocks
+/// are given back to it; `Write` where the sink does not take the line; and `OutOfMemory`, after
+/// which the ports and clocks are dropped.
 pub fn serve<W: Threads + Wait + Sync, H: Host, K: Sink>(
     rt: &W,
     alloc: Global,

@@ -16,8 +16,9 @@ use std::thread::Threads;
 /// its Follow_Up did.
 ///
 /// # Errors
-/// `Open` if the host does not open; `Write` if the sink does not take the line; and `OutOfMemory`,
-/// after which the ports and clocks are dropped.
+/// `Open` if the host does not open, or not the control port, after which the ports and clocks are
+/// given back to it; `Write` if the sink does not take the line; and `OutOfMemory`, after which the
+/// ports and clocks are dropped.
 pub fn serve_in_two_steps<W: Threads + Wait + Sync, H: Host, K: Sink>(
     rt: &W,
     alloc: Global,
