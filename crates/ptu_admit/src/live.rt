@@ -15,11 +15,11 @@ use ptu_units::{Kind, Moment, rate};
 pub struct Live {
     /// Their rates, in sixteenths of a message per second.
     pub rates: u64,
-    /// How many are of Announces.
+    /// How many live grants are of Announces.
     pub announces: u64,
-    /// How many are of Syncs.
+    /// How many live grants are of Syncs.
     pub syncs: u64,
-    /// How many are of Delay_Resps.
+    /// How many live grants are of Delay_Resps.
     pub delay_resps: u64,
 }
 

@@ -11,6 +11,7 @@ ghost use Rattle.ptu_config.specs.{Forms.{address_in, identity_in}, Masters.{mas
 ghost use Rattle.ptu_config.specs.Rules.{Value, gm_keys, serving_keys, slave_keys, setting_of, number, nothing};
 ghost use Rattle.ptu_config.specs.Documents.{Reads, Says, document_of, refusal_of, table_refusal};
 ghost use Rattle.ptu_config.specs.Entries.{gm_entries, slave_entries};
+ghost use Rattle.ptu_config.specs.Limits.{greatest_control_port};
 ghost use Rattle.ptu_config.specs.Examples.{gm_text, gm_document, gm_defaults, gm_spoken_to, gm_with, repeated, sample_key, two_masters};
 ghost use Rattle.ptu_config.specs.Rounds.{all_rounds, all_slave_rounds};
 ghost use Rattle.ptu_config.specs.Samples.{AreRefused, LinesAreWritten};
@@ -113,8 +114,8 @@ pub fn control_of_a_grandmaster()
     ensures zero { table_refusal gm_keys (gm_spoken_to (integer (pos 0)) sample_key)
         ≡ Some (SettingFault.Bad Key.ControlPort) }
     ensures least { table_refusal gm_keys (gm_spoken_to (integer (pos 1)) sample_key) ≡ None }
-    ensures greatest { table_refusal gm_keys (gm_spoken_to (integer (pos 65534)) sample_key)
-        ≡ None }
+    ensures greatest { table_refusal gm_keys
+        (gm_spoken_to (integer (pos greatest_control_port)) sample_key) ≡ None }
     ensures no_next_number { table_refusal gm_keys
         (gm_spoken_to (integer (pos 65535)) sample_key) ≡ Some (SettingFault.Bad Key.ControlPort) }
     // It is not the port of a channel, whether that one has a key or not.
