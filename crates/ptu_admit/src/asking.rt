@@ -12,7 +12,7 @@ ghost use Rattle.ptu_admit.specs.{Rows.{kept_rate}, Tables.{KeepsPort, fall_of}}
 ghost use Rattle.ptu_admit.specs.Verdict.{IsAt, IsFor, OnOutside, OnWithin, ask_of, config_of, unless_short, verdict_beside, verdict_of, verdict_on};
 
 use crate::book::Book;
-use crate::granting::{decide_swept, grant, others_beside};
+use crate::granting::{decide_swept, fits_beside, grant};
 use crate::profile::{Wanted, wanted_by};
 use crate::sweeping::sweep_all;
 use crate::verdict::Verdict;
@@ -21,7 +21,7 @@ use ptu_messages::Ask;
 use ptu_outside::Port;
 use ptu_profile::GmConfig;
 use ptu_shard::Shard;
-use ptu_units::{Moment, rate};
+use ptu_units::Moment;
 
 /// Decides an ask over the client's table alone, at the greatest of `t`, the book's moment and the
 /// table's, where the total shows that it fits. `None` exactly where the total, less what the
@@ -83,8 +83,7 @@ pub fn decide_one<P: Port>(
         Err(outside) => return Some(Verdict::Outside(outside)),
     };
     let at = t.latest(book.now().latest(shard.moment()));
-    let others = others_beside(shard, book, client, wanted.kind);
-    if others + rate(wanted.log) > book.capacity() {
+    if !fits_beside(shard, book, client, wanted.kind, wanted.log) {
         return None;
     }
     Some(Verdict::Granted(grant(shard, book, config, at, client, wanted)))

@@ -1,6 +1,6 @@
 //! Grants on a table that is lent beside the book.
 
-ghost use Rattle.std.specs.Prelude.{◌≡◌, ◌≢◌, ℕ, ◌+◌, ◌-◌, ◌*◌, ◌≤◌, ◌<◌, min, List, [], ◌∷◌, ◌++◌, IfSome, IfNone};
+ghost use Rattle.std.specs.Prelude.{◌≡◌, ◌≢◌, ℕ, ◌+◌, ◌-◌, ◌*◌, ◌≤◌, ◌<◌, min, nat_le, List, [], ◌∷◌, ◌++◌, IfSome, IfNone};
 ghost use Rattle.ptu_units.specs.Log.{period_of, rate_of};
 ghost use Rattle.ptu_admit.specs.Book.{IsInForce};
 ghost use Rattle.ptu_history.specs.{Client.{table_of}, History.{Record, Granted}};
@@ -40,6 +40,32 @@ pub(crate) fn others_beside<P: Port>(
         Some(lease) => book.total() - rate(lease.log),
         None => book.total(),
     }
+}
+
+/// Whether a grant of the logarithm fits beside what the total has but for the client's own row of
+/// the kind. That row is looked up only where the ask does not fit beside the whole total.
+#[inline(always)]
+pub(crate) fn fits_beside<P: Port>(
+    shard: &Shard<P>,
+    book: &Book,
+    client: &Client,
+    kind: Kind,
+    log: Log,
+) -> bool
+    requires { share_of shard.now.rows ≤ book.now.total }
+    ensures value { result ≡ nat_le (book.now.total - kept_rate client.now kind shard.now.rows
+        + rate_of log) book.now.capacity }
+    ensures within { book.now.total ≤ book.now.capacity }
+    ensures limit { IsInForce book.now.capacity }
+    ensures distinct { IsDistinctByLease shard.now.rows }
+{
+    let _share = shard.held();
+    let rate = rate(log);
+    let capacity = book.capacity();
+    if book.total() + rate <= capacity {
+        return true;
+    }
+    others_beside(shard, book, client, kind) + rate <= capacity
 }
 
 // The lease of a grant at the moment, after the client's live lease of the kind.

@@ -33,12 +33,13 @@ pub enum Outside {
 /// A grant as it is answered. Only this crate makes one.
 #[derive(Clone, Copy)]
 pub struct Grant {
-    client: Client,
+    // (in an order that leaves few octets unused between them, since a verdict is copied often)
     kind: Kind,
     log: Log,
-    at: Moment,
     seconds: u32,
+    at: Moment,
     until: u64,
+    client: Client,
 }
 
 impl Model for Grant {

@@ -1,10 +1,10 @@
-use Rattle.std.proofs.Common.{◌≡◌, ◌∙◌, ◌+◌, ◌*◌, ◌≤◌, ◌++◌, ◌∷◌, [], ℕ, max, min, ap, arith, refl, subst, sym}
+use Rattle.std.proofs.Common.{◌≡◌, ◌∙◌, ◌+◌, ◌-◌, ◌*◌, ◌≤◌, ◌++◌, ◌∷◌, [], ℕ, max, min, ap, arith, refl, rules, subst, sym}
 use Rattle.ptu_units.specs.Log.{rate_of}
 use Rattle.ptu_history.specs.{Client.{table_of}, History.{Granted, capacity_in_force}}
 use Rattle.ptu_history.specs.{Moments.{book_moment}, Verdict.{GrantedFor, others, verdict}}
 use Rattle.ptu_history.specs.Step.{verdict_records}
 use Rattle.ptu_history.proofs.Verdicts.{verdict-granted, verdict-outside}
-use Rattle.ptu_admit.specs.{Lent.{StandFor, table_for}, Verdict.{ask_of, cause_of, config_of}}
+use Rattle.ptu_admit.specs.{Lent.{StandFor, table_for}, Rows.{kept_rate}, Verdict.{ask_of, cause_of, config_of}}
 use Rattle.ptu_admit.proofs.Alone.{alone_one, alone_same}
 use Rattle.ptu_admit.proofs.Lending.{are_at, of_granted, taken}
 use Rattle.ptu_admit.proofs.Verdicts.{others-le, outside_stands}
@@ -29,15 +29,13 @@ returns-clause-verdict g c = λ opening rest history s.
     let top = capacity_in_force opening history in
     let most = c.args.config.now.max_duration in
     let log_is : c.in-Ok.wanted.log ≡ c.args.ask.now.log = c.in-Ok.ensures.within.1 in
+    let beside : c.args.book.now.total - kept_rate c.args.client.now k c.args.shard.now.rows + rate_of c.in-Ok.wanted.log ≤ c.args.book.now.capacity = search rules in
     let fits : others history n c.args.client.now k + rate_of c.args.ask.now.log ≤ top =
     omega (
       arith,
-      others-le opening (table_for c.args.client.now c.args.shard.now) rest c.args.book.now history n c.args.client.now k s refl le c.others_beside-others.ensures.distinct,
-      c.others_beside-others.ensures.value,
-      c.rate.ensures.rate,
+      others-le opening (table_for c.args.client.now c.args.shard.now) rest c.args.book.now history n c.args.client.now k s refl le c.fits_beside.ensures.distinct,
+      beside,
       ap rate_of log_is,
-      c.capacity.ensures.value,
-      c.if-others-rate.false,
       s.capacity,
     ) in
     ap (λ t. GrantedFor t.kind t.log t.seconds t.until) c.grant.ensures.granted
@@ -80,8 +78,8 @@ returns-clause-stands g c = λ opening rest history s none.
 pub returns-in-Err-clause-alone : goal.returns-in-Err-clause-alone
 returns-in-Err-clause-alone g c = alone_same (table_of c.args.client.now) c.args.shard.now
 
-pub returns-then-others-rate-clause-alone : goal.returns-then-others-rate-clause-alone
-returns-then-others-rate-clause-alone g c = alone_same (table_of c.args.client.now) c.args.shard.now
+pub returns-then-not-fits_beside-clause-alone : goal.returns-then-not-fits_beside-clause-alone
+returns-then-not-fits_beside-clause-alone g c = alone_same (table_of c.args.client.now) c.args.shard.now
 
 pub returns-clause-alone : goal.returns-clause-alone
 returns-clause-alone g c = λ history s.
