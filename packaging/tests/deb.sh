@@ -92,6 +92,7 @@ contents() {
     cat <<'END'
 -rw-r--r-- root/root ./etc/ptpuni/serve.toml
 -rwxr-xr-x root/root ./usr/bin/ptpuni
+-rwxr-xr-x root/root ./usr/bin/ptpuni-ctl
 -rwxr-xr-x root/root ./usr/lib/ptpuni/ptpuni-serve
 -rw-r--r-- root/root ./usr/lib/ptpuni/version
 -rw-r--r-- root/root ./usr/lib/sysctl.d/60-ptpuni.conf
@@ -99,6 +100,7 @@ contents() {
 -rw-r--r-- root/root ./usr/share/doc/ptpuni/FORMATS.md
 -rw-r--r-- root/root ./usr/share/doc/ptpuni/INTEROP.md
 -rw-r--r-- root/root ./usr/share/doc/ptpuni/OPERATING.md
+-rw-r--r-- root/root ./usr/share/man/man1/ptpuni-ctl.1.gz
 -rw-r--r-- root/root ./usr/share/man/man1/ptpuni.1.gz
 END
     for it in "$top"/examples/*; do echo "-rw-r--r-- root/root ./usr/share/doc/ptpuni/examples/${it##*/}"; done
@@ -112,7 +114,7 @@ has_contents() {
 names_are_there() {
     local it missing=
     for it in $(cat "$at"/usr/lib/systemd/system/ptpuni.service "$at"/etc/ptpuni/serve.toml \
-        <(zcat "$at/usr/share/man/man1/ptpuni.1.gz") |
+        <(zcat "$at"/usr/share/man/man1/*.gz) |
         grep -oE '(^|[^a-z])/(usr|etc)/[a-zA-Z0-9./_-]*[a-zA-Z0-9]' | sed 's|^[^/]*||' | sort -u); do
         [ -e "$at$it" ] || [ "$it" = /etc/default/ptpuni ] || missing+=" $it"
     done
@@ -125,6 +127,7 @@ test_contents() {
     holds "the package has these files" has_contents
     holds "the program is the one that was built" cmp "$binary" "$at/usr/bin/ptpuni"
     holds "the launcher is that of the checkout" cmp "$here/ptpuni-serve" "$at/usr/lib/ptpuni/ptpuni-serve"
+    holds "ptpuni-ctl is that of the checkout" cmp "$here/ptpuni-ctl" "$at/usr/bin/ptpuni-ctl"
     holds "the examples are those of the checkout" diff -r "$top/examples" "$at/usr/share/doc/ptpuni/examples"
     holds "the settings are those of the checkout, but for comments" diff \
         <(grep -v '^#' "$here/serve.toml") <(grep -v '^#' "$at/etc/ptpuni/serve.toml")
@@ -132,9 +135,10 @@ test_contents() {
     holds "the files that are named are there" names_are_there
     holds "no place is one of an installation by hand" fails grep -rq --exclude-dir=doc /usr/local "$at"
     holds "the unit is that of the checkout, but for its head and its places" diff \
-        <(sed '1,/^$/d; s|/usr/local/lib|/usr/lib|' "$here/ptpuni.service") "$at/usr/lib/systemd/system/ptpuni.service"
+        <(sed '1,/^$/d; s|/usr/local/|/usr/|' "$here/ptpuni.service") "$at/usr/lib/systemd/system/ptpuni.service"
     holds "the settings are kept by dpkg as the operator's" [ "$(dpkg-deb -I "$deb" conffiles)" = /etc/ptpuni/serve.toml ]
     says "the launcher tells the version" 0 "ptpuni $(field "$deb" Version): commit " "$at/usr/lib/ptpuni/ptpuni-serve" --version
+    says "and so does ptpuni-ctl" 0 "ptpuni $(field "$deb" Version): commit " "$at/usr/bin/ptpuni-ctl" --version
 }
 
 # They are refused as they come, since they are nobody's: the operator has to write an address and a clock.
@@ -250,7 +254,7 @@ test_by_hand() {
         holds "by hand: $line" env -C "$source" bash -c "${line// \// $hand/}"
         commands=$((commands + 1))
     done < <(sed -n 's/^#   \(install [^&(]*\).*/\1/p' "$here/ptpuni.service")
-    holds "seven commands" [ "$commands" -eq 7 ]
+    holds "nine commands" [ "$commands" -eq 9 ]
     holds "the last program is that without proofs" cmp "$room/program" "$hand/usr/local/bin/ptpuni"
     read -r command settings < <(sed -n 's/^ExecStart=//p' "$hand/etc/systemd/system/ptpuni.service")
     holds "the unit's command is there" [ -x "$hand$command" ]

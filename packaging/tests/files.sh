@@ -29,7 +29,9 @@ ExecStart=/usr/local/lib/ptpuni/ptpuni-serve /etc/ptpuni/serve.toml
 EnvironmentFile=-/etc/default/ptpuni
 Restart=always
 RestartSec=2
-RestartPreventExitStatus=64 65 66
+RestartPreventExitStatus=0 64 65 66
+ExecReload=/usr/local/bin/ptpuni-ctl /etc/ptpuni/serve.toml reload
+ExecStop=-/usr/local/bin/ptpuni-ctl /etc/ptpuni/serve.toml stop
 DynamicUser=yes
 AmbientCapabilities=CAP_NET_BIND_SERVICE
 CapabilityBoundingSet=CAP_NET_BIND_SERVICE
@@ -54,8 +56,9 @@ test_unit() {
         return
     fi
     mkdir -p "$room/man/man1"
-    cp "$here/ptpuni.1" "$room/man/man1/"
-    sed "s|^ExecStart=[^ ]*|ExecStart=$room/ptpuni-serve|" "$here/ptpuni.service" >"$room/ptpuni.service"
+    cp "$here/ptpuni.1" "$here/ptpuni-ctl.1" "$room/man/man1/"
+    cp "$here/ptpuni-ctl" "$room/ptpuni-ctl"
+    sed "s|=-*/usr/local/[^ ]*/|=$room/|" "$here/ptpuni.service" >"$room/ptpuni.service"
     if has man; then
         holds "ptpuni.service verifies" verifies "$room/ptpuni.service"
     else
@@ -77,14 +80,14 @@ groff_is_well() {
 test_page() {
     printf '.TH X 1\n.SH NAME\nx \\- y\n\\*[no-such-string]\n' >"$room/broken.1"
     if has man && ! page_is_well "$room/broken.1"; then
-        holds "man finds nothing in ptpuni.1" page_is_well "$here/ptpuni.1"
+        holds "man finds nothing in $1" page_is_well "$here/$1"
     else
-        skip "ptpuni.1: man (Debian package man-db) is not here, or does not find what is wrong"
+        skip "$1: man (Debian package man-db) is not here, or does not find what is wrong"
     fi
     if has groff && ! groff_is_well "$room/broken.1"; then
-        holds "groff finds nothing in ptpuni.1" groff_is_well "$here/ptpuni.1"
+        holds "groff finds nothing in $1" groff_is_well "$here/$1"
     else
-        skip "ptpuni.1: groff is not here, or does not find what is wrong"
+        skip "$1: groff is not here, or does not find what is wrong"
     fi
 }
 
@@ -116,7 +119,8 @@ test_files() {
     holds "the launcher knows all settings" keys_are_in "$here/ptpuni-serve"
     test_promises
     test_unit
-    test_page
+    test_page ptpuni.1
+    test_page ptpuni-ctl.1
     test_sysctl
     for it in "$top/ptpuni" "$here/ptpuni-serve" "$here/make-deb" "$here"/deb/* "$here/test.sh"; do
         # (other versions have other remarks)

@@ -28,6 +28,10 @@ agree_on_size() {
 test_edges_of_both() {
     local key least most value lines
     while read -r key least most; do
+        if [ "$key" = control_port ] && ! knows_control; then
+            skip "both edges of control_port: the program does not know it"
+            continue
+        fi
         for value in "$least" "$most"; do
             lines_at "$key" "$value"
             holds "both take the edge $key = $value" agree 69 "${lines[@]}"
@@ -39,19 +43,38 @@ test_edges_of_both() {
     done < <(ranges)
 }
 
+test_agreement_on_control() {
+    local key='control_key = "0123456789ABcdef"'
+    holds "both take control_port and control_key" agree 0 "control_port = $control" "$key"
+    holds "both take control_key alone" agree 0 "$key"
+    holds "both refuse control_port alone" agree 65 "control_port = $control"
+    holds "both refuse the control_port of another port" agree 65 "control_port = $general" "$key"
+    for key in "control_key = 1" 'control_key = "0123456789abcde"' 'control_key = "0123456789abcdefa"' 'control_key = "0123456789abcdeg"'; do
+        holds "both refuse: $key" agree 65 "control_port = $control" "$key"
+        holds "both refuse, without a control_port: $key" agree 65 "$key"
+    done
+}
+
 test_agreement() {
     local it
     for it in "class = 255" "domain = 23" "max_duration = 60" "senders = 0" 'clock = "00B0AEFFFE000001"' "port = 65534" \
-        "epoch = 140737488355327" "rounds = 0x2" "repeat = 2" "capacity = 1_000" '"class" = 84' 'new_capacity = 5' "two_step = true"; do
+        "epoch = 140737488355327" "rounds = 0x2" "repeat = 2" "capacity = 1_000" '"class" = 84' 'new_capacity = 5' "two_step = true" \
+        $'control_port = 8319\ncontrol_key = "00B0AEFFFE000002"' 'control_key = "00b0aefffe000002"'; do
         holds "both take: $it" agree 0 "$it"
     done
     for it in "class = 256" "domain = 3" "domain = 24" "max_duration = 59" "max_duration = 1001" "senders = 5" "port = 0" \
         "port = 65535" "epoch = 140737488355328" "epoch = -1" "rounds = 4294967296" "rounds = 1.0" "repeat = 0" "repeat = 1001" "capacity = 0" \
         "capacity = 16777217" "capacity = \"8\"" "event_port = 0" "general_port = 65536" 'ip = "127.0.0.01"' \
         'ip = "127.0.0"' 'ip = 5' 'clock = "00b0aefffe00000g"' 'clock = 1' "new_capacity = 0" "change_round = 1" \
-        "two_step = 0" "duration = 60" "[table]" "class = [84]" "class = " "=" "ip " "rounds " "clock "; do
+        "two_step = 0" "control_port = 8319" $'control_port = 65535\ncontrol_key = "00b0aefffe000002"' \
+        $'control_key = "00b0aefffe00000"\ncontrol_port = 8319' "control_key = 5" "duration = 60" "[table]" "class = [84]" "class = " "=" "ip " "rounds " "clock "; do
         holds "both refuse: $it" agree 65 "$it"
     done
+    if knows_control; then
+        test_agreement_on_control
+    else
+        skip "both on the control port: the program does not know it"
+    fi
     for it in "65536 0" "65537 65"; do
         holds "both: so many octets, this status: $it" agree_on_size "${it% *}" "${it#* }"
     done

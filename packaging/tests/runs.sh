@@ -23,14 +23,15 @@ is_stopped_whole() {
     local call status
     rm -f "$room/starts" "$room/asleep"
     touch "$room/lasts"
-    env PTPUNI_PROGRAM="$room/fake" "$room/ptpuni-serve" "$room/good.toml" >/dev/null 2>&1 </dev/null &
+    env PTPUNI_PROGRAM="$room/fake" "$room/ptpuni-serve" "$room/good.toml" >"$room/journal" 2>&1 </dev/null &
     call=$!
     wait_for "$room/asleep"
     kill -TERM "$call"
     wait "$call" 2>/dev/null
     status=$?
     rm -f "$room/lasts"
-    [ "$status" -eq 143 ] && count "$room/stopped" 1
+    # (what it has said by then is not lost)
+    [ "$status" -eq 143 ] && count "$room/stopped" 1 && [ "$(grep -c '^rounds 3 sent 0' "$room/journal")" -eq 1 ]
 }
 
 # Runs the launcher at a moment of its clock, in seconds with six digits behind the point. As soon as it sleeps it is nine
@@ -140,7 +141,7 @@ test_ends() {
 # All keys of `serve`, each with another value than its default but two_step, which is given.
 all_settings() {
     settings "epoch = 5" "repeat = 3" "port = 2" "domain = 5" "class = 110" "max_duration = 300" "senders = 2" "change_round = 7" \
-        "new_capacity = 8" "two_step = $1"
+        "new_capacity = 8" "two_step = $1" "control_port = $control" 'control_key = "0123456789abcdef"'
 }
 
 test_runs() {
@@ -151,7 +152,7 @@ test_runs() {
     fi
     for it in false true; do
         all_settings "$it" >"$room/good.toml"
-        says "a run, two_step = $it" 0 "rounds 1 sent 0" launch --once "$room/good.toml"
+        says "a run, two_step = $it" 0 "rounds 3 sent 0" launch --once "$room/good.toml"
         holds "the epoch is TAI at the start, by leap-seconds.list" starts_at_second 141
         holds "the other settings are handed over, and one epoch: two_step = $it" given_as_written
     done

@@ -12,7 +12,12 @@ if [ "$1" = show ]; then echo "end 0"; exit; fi
 trap 'echo stopped >>"$room/stopped"; kill $! 2>/dev/null; exit 143' TERM
 cat >"$room/given"
 echo "$EPOCHREALTIME $(sed -n 's/^epoch = //p' "$room/given")" >>"$room/starts"
-if [ -e "$room/line" ]; then cat "$room/line"; else echo "rounds 1 sent 0 failed 0 granted 0 refused 0 held 0"; fi
+# (as many rounds as the settings have)
+rounds=$(sed -n 's/^rounds = //p' "$room/given")
+repeat=$(sed -n 's/^repeat = //p' "$room/given")
+line="rounds $((rounds * ${repeat:-1})) sent 0 failed 0 granted 0 refused 0 held 0"
+if [ -e "$room/line" ]; then cat "$room/line"; else echo "$line"; fi
+[ ! -e "$room/between" ] || . "$room/between"
 if [ -e "$room/lasts" ]; then sleep 600 & echo asleep >"$room/asleep"; wait; fi
 [ "$(wc -l <"$room/starts")" -lt "$(cat "$room/times" 2>/dev/null || echo 1)" ] || exit "$(cat "$room/status" 2>/dev/null || echo 0)"
 END
@@ -63,7 +68,8 @@ takes() {
 
 # The ranges of whole numbers of a grandmaster, as docs/FORMATS.md has them: key, least and greatest value in each line.
 ranges() {
-    sed -n '/^| Key of both/,/^| Key of a slave/p' "$top/docs/FORMATS.md" | awk -F'|' '$3 ~ /^ *[0-9]+ to [0-9]+ *$/ {
+    sed -n '/^| Key of both/,/^| Key of a slave/p' "$top/docs/FORMATS.md" | awk -F'|' '$3 ~ /^ *[0-9]+ to [0-9]+( *|, .*)$/ {
+        sub(/,.*/, "", $3)
         split($3, range, " ")
         count = split($2, keys, ",")
         for (i = 1; i <= count; i++) { gsub(/[` ]/, "", keys[i]); print keys[i], range[1], range[3] }
@@ -78,12 +84,13 @@ lines_at() {
     event_port) lines+=("general_port = $2") ;;
     general_port) lines+=("event_port = $2") ;;
     change_round) lines+=("new_capacity = 5") ;;
+    control_port) lines+=('control_key = "0123456789abcdef"') ;;
     esac
 }
 
 test_edges() {
     local key least most value lines
-    holds "docs/FORMATS.md has the ranges of thirteen keys" [ "$(ranges | wc -l)" -eq 13 ]
+    holds "docs/FORMATS.md has the ranges of fourteen keys" [ "$(ranges | wc -l)" -eq 14 ]
     while read -r key least most; do
         for value in "$least" "$most"; do
             lines_at "$key" "$value"
@@ -142,10 +149,30 @@ test_values() {
     refuses "two_step" "has to be true or false" "two_step = 1"
     takes "two_step that is true" "two_step = true"
     takes "two_step that is false" "two_step = false"
+    test_control_values
     settings_of_size 65536 >"$room/long.toml"
     says "65536 octets are taken" 0 "all is well" launch --check "$room/long.toml"
     settings_of_size 65537 >"$room/long.toml"
     says "65537 octets are too long" 65 "more than 65536 octets" launch --check "$room/long.toml"
+}
+
+test_control_values() {
+    local it key='control_key = "00B0aefffe000002"'
+    takes "a control port with its key" "control_port = $control" "$key"
+    takes "a key without a control port" "$key"
+    refuses "a control port without a key" "control_key is missing: a text of 16 hexadecimal digits" "control_port = $control"
+    refuses "a control port that is no number" "has to be a whole number from 1 to 65534" 'control_port = "8319"' "$key"
+    refuses "a control port that is the event port" "bad.toml:7: control_port is $event, as event_port, and has to be another port" \
+        "control_port = $event" "$key"
+    refuses "a control port that is the general port" "control_port is $general, as general_port" "control_port = $general" "$key"
+    for it in 319 320; do
+        refuses "the control port $it where the others are left out" "control_port is $it, as " "event_port " "general_port " \
+            "control_port = $it" "$key"
+    done
+    for it in 1 '"00b0aefffe00000"' '"00b0aefffe0000021"' '"00b0aefffe00000g"'; do
+        refuses "the control key $it" "has to be a text of 16 hexadecimal digits" "control_port = $control" "control_key = $it"
+        refuses "the control key $it, without a control port" "has to be a text of 16 hexadecimal digits" "control_key = $it"
+    done
 }
 
 test_settings() {

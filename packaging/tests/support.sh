@@ -100,3 +100,18 @@ has_loopback() {
 knows_addresses() {
     has ip && [ "$(cat /proc/sys/net/ipv4/ip_nonlocal_bind 2>/dev/null)" != 1 ]
 }
+
+# A control port of this run's own, where no socket has it or the next number.
+find_control() {
+    local low=$((30000 + $$ % 1000 * 10))
+    for control in $(seq "$low" 2 $((low + 400))); do
+        python3 -c 'import socket, sys
+for it in (0, 1): socket.socket(socket.AF_INET, socket.SOCK_DGRAM).bind(("127.0.0.1", int(sys.argv[1]) + it))' "$control" 2>/dev/null &&
+            return
+    done
+}
+
+# Whether the program that is built knows the control port. (A key that is none is refused before all else.)
+knows_control() {
+    [ "$("$program" serve <<<'control_port = 1' 2>/dev/null)" != "settings unknown" ]
+}

@@ -10,3 +10,4 @@ pub mod Sendings
 pub mod Candidates
 pub mod ShedOrder
 pub mod ShedLoop
+pub mod LiveRows

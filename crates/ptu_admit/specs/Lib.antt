@@ -8,3 +8,4 @@ pub mod Tables
 pub mod Newest
 pub mod Shed
 pub mod Samples
+pub mod LiveRows

@@ -2,9 +2,10 @@
 //! requests are decided with one table alone.
 
 ghost use Rattle.std.specs.Prelude.{◌≡◌, ◌≤◌, ◌+◌, ◌-◌, List, []};
-ghost use Rattle.ptu_units.specs.Limits.{IsCapacity};
+ghost use Rattle.ptu_admit.specs.Book.{IsInForce};
 ghost use Rattle.ptu_admit.specs.Lent.{EachStandsAt, Lent, StandFor, shares};
 
+use crate::in_force::InForce;
 use ptu_units::{Capacity, Moment};
 use std::marker::Model;
 
@@ -13,7 +14,7 @@ use std::marker::Model;
 /// which is the sum of the rates of all rows of the four tables. The total is at most the capacity.
 #[derive(Drop)]
 pub struct Book {
-    capacity: Capacity,
+    capacity: InForce,
     moment: Moment,
     total: u64,
 }
@@ -40,16 +41,16 @@ impl Book {
             StandFor capacity lent result [] }
     {
         Book {
-            capacity,
+            capacity: InForce::of(capacity),
             moment: Moment::default(),
             total: 0,
         }
     }
 
-    /// The capacity in force, in sixteenths of a message per second.
+    /// The capacity in force, in sixteenths of a message per second, or 0 where none is.
     pub fn capacity(&self) -> u64
         ensures value { result ≡ self.now.capacity }
-        ensures range { IsCapacity result }
+        ensures range { IsInForce result }
     {
         self.capacity.get()
     }
@@ -86,7 +87,7 @@ impl Book {
     }
 
     // The capacity was changed by a decision at the moment.
-    pub(crate) fn change(&mut self, capacity: Capacity, at: Moment)
+    pub(crate) fn change(&mut self, capacity: InForce, at: Moment)
         requires fits { self.old.total ≤ capacity }
         ensures { self.new ≡ record self.old { capacity = capacity; moment = at } }
     {

@@ -1,7 +1,8 @@
 //! Grants on a table that is lent beside the book.
 
 ghost use Rattle.std.specs.Prelude.{◌≡◌, ◌≢◌, ℕ, ◌+◌, ◌-◌, ◌*◌, ◌≤◌, ◌<◌, min, List, [], ◌∷◌, ◌++◌, IfSome, IfNone};
-ghost use Rattle.ptu_units.specs.{Limits.{IsCapacity}, Log.{period_of, rate_of}};
+ghost use Rattle.ptu_units.specs.Log.{period_of, rate_of};
+ghost use Rattle.ptu_admit.specs.Book.{IsInForce};
 ghost use Rattle.ptu_history.specs.{Client.{table_of}, History.{Record, Granted}};
 ghost use Rattle.ptu_history.specs.Step.{verdict_records};
 ghost use Rattle.ptu_shard.specs.{Row.{IsDistinctByLease, share_of}, Table.{StandsBeside}};
@@ -30,7 +31,7 @@ pub(crate) fn others_beside<P: Port>(
     requires { share_of shard.now.rows ≤ book.now.total }
     ensures value { result ≡ book.now.total - kept_rate client.now kind shard.now.rows }
     ensures within { book.now.total ≤ book.now.capacity }
-    ensures limit { IsCapacity book.now.capacity }
+    ensures limit { IsInForce book.now.capacity }
     ensures distinct { IsDistinctByLease shard.now.rows }
 {
     let _share = shard.held();

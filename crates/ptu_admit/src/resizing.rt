@@ -7,12 +7,13 @@ ghost use Rattle.ptu_admit.specs.{Lent.{StandFor, four, moment_for_all, shares},
 ghost use Rattle.ptu_admit.specs.{Alone.{GoesOnAlone}, Shed.{shed_of}, Tables.{KeepsPort}};
 
 use crate::book::Book;
+use crate::in_force::InForce;
 use crate::shed_list::ShedList;
 use crate::shedding::{Shedding, shed_above};
 use crate::sweeping::{latest_of, sweep_all};
 use ptu_outside::Port;
 use ptu_shard::Shard;
-use ptu_units::{Capacity, Moment, OutOfMemory};
+use ptu_units::{Moment, OutOfMemory};
 use std::alloc::Global;
 
 /// What a change of capacity did.
@@ -24,9 +25,9 @@ pub struct Resized {
     pub shed: ShedList,
 }
 
-/// Changes the capacity in force to this many sixteenths of a message per second, over four tables
-/// in order of index, at the greatest of `t`, the book's moment and the tables'. If the live grants
-/// are above it, the newest are shed until the rest fits.
+/// Changes the capacity in force, over four tables in order of index, at the greatest of `t`, the
+/// book's moment and the tables'. If the live grants are above it, the newest are shed until the
+/// rest fits.
 ///
 /// # Errors
 /// `OutOfMemory` if there is no memory for the list of what is shed, so only where what is reserved
@@ -39,7 +40,7 @@ pub fn resize<P: Port>(
     s3: &mut Shard<P>,
     book: &mut Book,
     t: Moment,
-    capacity: Capacity,
+    capacity: InForce,
 ) -> Result<Resized, OutOfMemory>
     requires sum { book.old.total ≡ shares (four s0.old s1.old s2.old s3.old) }
     ensures at { IfOk result (λ r. r.at

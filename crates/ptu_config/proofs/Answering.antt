@@ -5,9 +5,12 @@ use Rattle.std.proofs.lemmas.{Bool.{cases_Bool, lt-ltb, ltb-false, ltb-true}, Li
 use Rattle.ptu_config.specs.declared.key.Key.{Key}
 use Rattle.ptu_config.specs.declared.refusal.{RefusalLine.{RefusalLine}, RefusalLine.TheVariants.{Size}}
 use Rattle.ptu_config.specs.declared.setup_fault.{SetupFault.{SetupFault}, SetupFault.TheVariants.{Refused, Read, OutOfMemory}}
-use Rattle.ptu_config.specs.{Reading.{Answers, HasTaken}, Refusals.{slave_refusal}, Rules.{Value}}
+use Rattle.ptu_config.specs.{Reading.{Answers, HasTaken}, Refusals.{gm_refusal, slave_refusal}, Rules.{Value}}
 
 -- too many octets are refused by their number
+pub long_gm : (octets : List ℕ) → nat_lt 65536 (length octets) ≡ true → gm_refusal octets ≡ Some Size
+long_gm octets long = rw long refl
+
 pub long_slave : (flags gaps : ℕ) (octets : List ℕ) → nat_lt 65536 (length octets) ≡ true → slave_refusal flags gaps octets ≡ Some Size
 long_slave flags gaps octets long = rw long refl
 

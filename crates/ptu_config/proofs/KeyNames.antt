@@ -3,13 +3,13 @@ use Rattle.std.proofs.Common.{◌≡◌, ℕ, List, [], ◌∷◌, Option, Some,
 use Rattle.std.specs.Prelude.{find, bytes_eq}
 use Rattle.std.proofs.lemmas.Option.{same_Some}
 use Rattle.ptu_config.specs.declared.key.Key.{Key}
-use Rattle.ptu_config.specs.declared.key.Key.TheVariants.{Ip, EventPort, GeneralPort, Clock, Port, Domain, Rounds, Repeat, Class, Capacity, MaxDuration, Epoch, Senders, ChangeRound, NewCapacity, TwoStep, WaitToRestore, AnnounceTimeout, SyncTimeout, DelayTimeout, LogAnnounce, LogSync, LogDelay, Duration, Masters}
+use Rattle.ptu_config.specs.declared.key.Key.TheVariants.{Ip, EventPort, GeneralPort, Clock, Port, Domain, Rounds, Repeat, Class, Capacity, MaxDuration, Epoch, Senders, ChangeRound, NewCapacity, TwoStep, ControlPort, ControlKey, WaitToRestore, AnnounceTimeout, SyncTimeout, DelayTimeout, LogAnnounce, LogSync, LogDelay, Duration, Masters}
 use Rattle.ptu_config.specs.Key.{name_of}
 
 abbrev pub all_keys : List Key
 all_keys = Ip ∷ EventPort ∷ GeneralPort ∷ Clock ∷ Port ∷ Domain ∷ Rounds ∷ Repeat ∷ Class ∷ Capacity
-    ∷ MaxDuration ∷ Epoch ∷ Senders ∷ ChangeRound ∷ NewCapacity ∷ TwoStep ∷ WaitToRestore
-    ∷ AnnounceTimeout ∷ SyncTimeout ∷ DelayTimeout ∷ LogAnnounce ∷ LogSync ∷ LogDelay ∷ Duration
+    ∷ MaxDuration ∷ Epoch ∷ Senders ∷ ChangeRound ∷ NewCapacity ∷ TwoStep ∷ ControlPort
+    ∷ ControlKey ∷ WaitToRestore ∷ AnnounceTimeout ∷ SyncTimeout ∷ DelayTimeout ∷ LogAnnounce ∷ LogSync ∷ LogDelay ∷ Duration
     ∷ Masters ∷ []
 
 abbrev pub key_named : List ℕ → Option Key
@@ -32,6 +32,8 @@ key_named-name Senders = refl
 key_named-name ChangeRound = refl
 key_named-name NewCapacity = refl
 key_named-name TwoStep = refl
+key_named-name ControlPort = refl
+key_named-name ControlKey = refl
 key_named-name WaitToRestore = refl
 key_named-name AnnounceTimeout = refl
 key_named-name SyncTimeout = refl

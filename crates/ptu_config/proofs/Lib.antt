@@ -5,5 +5,6 @@ pub mod RoundCounts
 pub mod EachMaster
 pub mod Readings
 pub mod KeyNames
+pub mod Controls
 mod Taking
 mod Answering

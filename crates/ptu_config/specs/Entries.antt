@@ -1,7 +1,7 @@
 -- What each field of the settings stands for.
 use Rattle.std.specs.Prelude.{List, [], ◌∷◌, ℕ, ℤ, Option, Some, None}
 use Rattle.ptu_config.specs.declared.key.Key.{Key}
-use Rattle.ptu_config.specs.declared.key.Key.TheVariants.{Ip, EventPort, GeneralPort, Clock, Port, Domain, Rounds, Repeat, Class, Capacity, MaxDuration, Epoch, Senders, ChangeRound, NewCapacity, TwoStep, WaitToRestore, AnnounceTimeout, SyncTimeout, DelayTimeout, LogAnnounce, LogSync, LogDelay, Duration, Masters}
+use Rattle.ptu_config.specs.declared.key.Key.TheVariants.{Ip, EventPort, GeneralPort, Clock, Port, Domain, Rounds, Repeat, Class, Capacity, MaxDuration, Epoch, Senders, ChangeRound, NewCapacity, TwoStep, ControlPort, ControlKey, WaitToRestore, AnnounceTimeout, SyncTimeout, DelayTimeout, LogAnnounce, LogSync, LogDelay, Duration, Masters}
 use Rattle.ptu_config.specs.declared.settings.GmSettings.{GmSettings}
 use Rattle.ptu_config.specs.declared.settings.SlaveSettings.{SlaveSettings}
 use Rattle.ptu_config.specs.Rules.{Value, number, logarithm, truth, masters, nothing}
@@ -23,7 +23,8 @@ gm_entries s = (Ip, number s.ip) ∷ (EventPort, number s.event_port)
     ∷ (Domain, number s.domain) ∷ (Rounds, number s.rounds) ∷ (Repeat, number s.repeat)
     ∷ (Class, number s.class) ∷ (Capacity, number s.capacity) ∷ (MaxDuration, number s.max_duration)
     ∷ (Epoch, number s.epoch) ∷ (Senders, number s.senders) ∷ (ChangeRound, number s.change_round)
-    ∷ (NewCapacity, number_or_nothing s.new_capacity) ∷ (TwoStep, truth s.two_step) ∷ []
+    ∷ (NewCapacity, number_or_nothing s.new_capacity) ∷ (TwoStep, truth s.two_step)
+    ∷ (ControlPort, number_or_nothing s.control_port) ∷ (ControlKey, number_or_nothing s.control_key) ∷ []
 
 -- each setting of a slave with its value, in the order of the settings
 abbrev pub slave_entries : SlaveSettings → List (Key × Value)

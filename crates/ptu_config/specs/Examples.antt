@@ -34,6 +34,8 @@ repeated rounds repeat = record {
   change_round = 0;
   new_capacity = None;
   two_step = false;
+  control_port = None;
+  control_key = None;
 }
 
 -- those settings as the document has them, where one round is done once

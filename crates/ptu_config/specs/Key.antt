@@ -1,7 +1,7 @@
 -- The names of the settings.
 use Rattle.std.specs.Prelude.{ℕ, List, codes}
 use Rattle.ptu_config.specs.declared.key.Key.{Key}
-use Rattle.ptu_config.specs.declared.key.Key.TheVariants.{Ip, EventPort, GeneralPort, Clock, Port, Domain, Rounds, Repeat, Class, Capacity, MaxDuration, Epoch, Senders, ChangeRound, NewCapacity, TwoStep, WaitToRestore, AnnounceTimeout, SyncTimeout, DelayTimeout, LogAnnounce, LogSync, LogDelay, Duration, Masters}
+use Rattle.ptu_config.specs.declared.key.Key.TheVariants.{Ip, EventPort, GeneralPort, Clock, Port, Domain, Rounds, Repeat, Class, Capacity, MaxDuration, Epoch, Senders, ChangeRound, NewCapacity, TwoStep, ControlPort, ControlKey, WaitToRestore, AnnounceTimeout, SyncTimeout, DelayTimeout, LogAnnounce, LogSync, LogDelay, Duration, Masters}
 
 -- the name of a setting, as a document writes it
 abbrev pub name_of : Key → List ℕ
@@ -21,6 +21,8 @@ name_of Senders = codes "senders"
 name_of ChangeRound = codes "change_round"
 name_of NewCapacity = codes "new_capacity"
 name_of TwoStep = codes "two_step"
+name_of ControlPort = codes "control_port"
+name_of ControlKey = codes "control_key"
 name_of WaitToRestore = codes "wait_to_restore"
 name_of AnnounceTimeout = codes "announce_timeout"
 name_of SyncTimeout = codes "sync_timeout"

@@ -11,3 +11,5 @@ pub mod Examples
 pub mod Refusals
 pub mod Reading
 pub mod Samples
+pub mod Commands
+pub mod Answers

@@ -1,10 +1,21 @@
 -- The ranges of settings that were read, for those who take them.
-use Rattle.std.specs.Prelude.{◌≡◌, ◌<◌, ◌≤◌, true, IsSome, IfSome}
+use Rattle.std.specs.Prelude.{ℕ, ◌-◌, ◌≡◌, ◌≢◌, ◌<◌, ◌≤◌, true, IsSome, IfSome}
 use Rattle.ptu_units.specs.declared.kind.Kind.TheVariants.{Announce, Sync, DelayResp}
 use Rattle.ptu_units.specs.Log.{IsLogOf}
 use Rattle.ptu_units.specs.Limits.{IsCapacity, IsDomain, IsDuration, IsEpoch, IsPort, IsSenders, IsTimeout, IsUdpPort, IsWait}
+use Rattle.ptu_units.specs.Limits.{least_udp_port, greatest_udp_port}
 use Rattle.ptu_config.specs.declared.settings.GmSettings.{GmSettings}
 use Rattle.ptu_config.specs.{declared.settings.SlaveSettings.{SlaveSettings}, Masters.{are_masters}, Rounds.{IsRepeat}}
+
+-- a control port: answers go to the next number
+abbrev pub greatest_control_port : ℕ
+greatest_control_port = greatest_udp_port - 1
+
+-- a control port beside these two ports: it is neither, and has a number behind it
+pub record IsControlPort (event_port general_port : ℕ) (number : ℕ) : Type 0 where
+  pub range : (least_udp_port ≤ number) × (number ≤ greatest_control_port)
+  pub no_event : number ≢ event_port
+  pub no_general : number ≢ general_port
 
 -- the settings of a grandmaster are within their ranges
 pub record IsGmInRange (s : GmSettings) : Type 0 where
@@ -20,6 +31,8 @@ pub record IsGmInRange (s : GmSettings) : Type 0 where
   pub senders : IsSenders s.senders
   pub new_capacity : IfSome s.new_capacity IsCapacity
   pub change : 0 < s.change_round → IsSome s.new_capacity
+  pub control_port : IfSome s.control_port (IsControlPort s.event_port s.general_port)
+  pub control_key : IsSome s.control_port → IsSome s.control_key
 
 -- the settings of a slave are within their ranges
 pub record IsSlaveInRange (s : SlaveSettings) : Type 0 where

@@ -3,6 +3,10 @@
 //! line of output.
 #![tactic(auto)]
 
+mod answer;
+mod command;
+pub mod command_examples;
+mod command_reading;
 mod common;
 mod document;
 mod fault;
@@ -21,6 +25,9 @@ mod setup_fault;
 mod slave;
 mod values;
 
+pub use answer::{Reply, Status, reply_text};
+pub use command::{Cause, Command};
+pub use command_reading::read_command;
 pub use fault::SettingFault;
 pub use gm::gm_settings;
 pub use key::Key;

@@ -22,4 +22,6 @@ pub const GM_SETTINGS: GmSettings = GmSettings {
     change_round: 0,
     new_capacity: None,
     two_step: false,
+    control_port: None,
+    control_key: None,
 };

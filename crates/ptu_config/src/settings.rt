@@ -46,6 +46,11 @@ pub struct GmSettings {
     pub new_capacity: Option<Capacity>,
     /// Whether each Sync is followed by a Follow_Up; false by default.
     pub two_step: bool,
+    /// The UDP port number at which the running daemon takes commands, from 1 to 65534 and other
+    /// than those of the channels, where its key is there.
+    pub control_port: Option<UdpPortNumber>,
+    /// The key that each command begins with, where its own key is there.
+    pub control_key: Option<u64>,
 }
 
 /// The settings of a slave's daemon.

@@ -34,7 +34,7 @@ pub(crate) fn address_of(value: &Value) -> Option<u32>
 }
 
 // A text that is a clock identity.
-fn identity_of(value: &Value) -> Option<u64>
+pub(crate) fn identity_of(value: &Value) -> Option<u64>
     ensures { result ≡ identity_in (view value.now) }
 {
     match value.as_str() {

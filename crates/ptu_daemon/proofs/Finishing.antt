@@ -1,5 +1,6 @@
 -- What the daemon has served, once all rounds were done and the grandmaster was closed.
-use Rattle.std.proofs.Common.{◌≡◌, ◌∙◌, ℕ, ◌+◌, List, [], ◌∷◌, ◌++◌, length, map, Option, Some, None, IsSome, refl, sym, ap, ap₂, subst, arith, true}
+use Rattle.std.proofs.Common.{◌≡◌, ◌∙◌, ℕ, ◌+◌, ◌*◌, ◌≤◌, List, [], ◌∷◌, ◌++◌, length, map, Option, Some, None, IsSome, refl, sym, ap, ap₂, subst, arith, true}
+use Rattle.std.specs.List.{AllByRecursion}
 use Rattle.ptu_outside.specs.declared.{clock.Clock.{Ghosts as Clocks}, opened.Opened.{Opened}}
 use Rattle.ptu_outside.specs.{declared.port.Port.{Ghosts as Ports}, Departure.{Departure}}
 use Rattle.ptu_outside.specs.Faults.{HasRisenBy, HasRisenJust}
@@ -14,15 +15,17 @@ use Rattle.ptu_grandmaster.specs.Gm.{KeptGm, StandsFor}
 use Rattle.ptu_lanes.specs.{Sending.{GoesOn, WasSent}, Served.{faults_of}}
 use Rattle.ptu_config.specs.{declared.settings.GmSettings.{GmSettings}, Rounds.{all_rounds}}
 use Rattle.ptu_outside.specs.Ports.{HaveNotRisen, HaveRisenBy, HaveRisenJust, WereSent, ports_of, senders_of}
-use Rattle.ptu_outside.specs.{Handed.{WasHanded, WereHanded}, Taken.{Gave, event_of, general_of}}
+use Rattle.ptu_outside.specs.{Handed.{WasHanded, WereHanded}, Taken.{Gave, HaveTaken, event_of, general_of}}
 use Rattle.ptu_outside.specs.Rounds.{in_rounds, timed}
 use Rattle.ptu_outside.specs.declared.tally.Tally.{Tally}
-use Rattle.ptu_daemon.specs.Events.{Given, Happening, Takes, config_of, happenings_of, round_of, served_events}
-use Rattle.ptu_daemon.specs.Ran.{AllHandled, DidRounds, Handled, after_all, five, standing_as}
-use Rattle.ptu_daemon.specs.Sends.{sends_by}
+use Rattle.ptu_daemon.specs.Commands.{AreCounted, DoneRound, IsSpoken, WasHandedAt, answers_from, done_events, happens_from, round_of, rounds_done, rounds_of, served_events, waits_at}
+use Rattle.ptu_daemon.specs.Events.{Given, Happening, Takes, config_of}
+use Rattle.ptu_daemon.specs.Obeying.{DidAll, DidRounds, HandledAt}
+use Rattle.ptu_daemon.specs.Ran.{AllHandled, Handled, five, standing_as}
+use Rattle.ptu_daemon.specs.Sends.{after_all, sends_by}
 use Rattle.ptu_daemon.specs.Served.{Said, opened_as, served_by, served_history, served_said}
 use Rattle.ptu_daemon.specs.Serving.{AreServed, Happened, IsGiven, Serves, many_by}
-use Rattle.ptu_daemon.proofs.{Handling.{five_each, handled_all, many_of}, Lawful.{is_lawful}, Running.{after_all-history}}
+use Rattle.ptu_daemon.proofs.{Commands.{many_done, rounds_are}, Handling.{five_each, handled_all, many_of}, Lawful.{is_lawful}, Running.{after_all-history}}
 
 -- ---- what is told
 
@@ -37,13 +40,8 @@ events_are old (Some left) moments happenings events (moments', is', events_is, 
     let same : moments' ≡ moments = cc in
     events_is ∙ ap (λ ms. timed ms happenings) same
 
-said_is : (a b : Said) → a.sent ≡ b.sent → a.failed ≡ b.failed → a.granted ≡ b.granted → a.refused ≡ b.refused → a.held ≡ b.held → a ≡ b
-said_is a b d e f g h =
-    ap (λ x. record { sent = x; failed = a.failed; granted = a.granted; refused = a.refused; held = a.held }) d
-    ∙ ap (λ x. record { sent = b.sent; failed = x; granted = a.granted; refused = a.refused; held = a.held }) e
-    ∙ ap (λ x. record { sent = b.sent; failed = b.failed; granted = x; refused = a.refused; held = a.held }) f
-    ∙ ap (λ x. record { sent = b.sent; failed = b.failed; granted = b.granted; refused = x; held = a.held }) g
-    ∙ ap (λ x. record { sent = b.sent; failed = b.failed; granted = b.granted; refused = b.refused; held = x }) h
+said_is : (a b : Said) → a.rounds ≡ b.rounds → a.sent ≡ b.sent → a.failed ≡ b.failed → a.granted ≡ b.granted → a.refused ≡ b.refused → a.held ≡ b.held → a ≡ b
+said_is a b c d e f g h = λ i. record { rounds = c i; sent = d i; failed = e i; granted = f i; refused = g i; held = h i }
 
 none_together : (n : ℕ) (olds news : List ℕ) → HaveRisenBy n olds news → HaveNotRisen olds news → n ≡ 0
 none_together n [] [] h still = h
@@ -188,15 +186,19 @@ module _ {P C : Type 0} (ports : Ports P) (clocks : Clocks C) where
       (limits : IsWithinLimits (config_of settings)) (capacity : IsCapacity settings.capacity) (config : gm0.config ≡ config_of settings)
       (p0 : gm0.s0.port ≡ opened.p0) (p1 : gm0.s1.port ≡ opened.p1) (p2 : gm0.s2.port ≡ opened.p2) (p3 : gm0.s3.port ≡ opened.p3) (p4 : gm0.reply ≡ opened.p4)
       (stood : StandsFor settings.capacity gm0 [])
-      (did : DidRounds ports clocks settings (all_rounds settings) (record { gm = gm0; event = opened.p5; clock = opened.c0 }) (record { gm = gm1; event = event; clock = clock }) tally)
+      (control control' : Option P) (rounds : ℕ)
+      (whole : DidAll ports clocks settings rounds (record { gm = gm0; event = opened.p5; clock = opened.c0 }) (record { gm = gm1; event = event; clock = clock }) control control' tally)
       (q0 : closed.p0 ≡ gm1.s0.port) (q1 : closed.p1 ≡ gm1.s1.port) (q2 : closed.p2 ≡ gm1.s2.port) (q3 : closed.p3 ≡ gm1.s3.port) (q4 : closed.p4 ≡ gm1.reply)
       (q5 : closed.p5 ≡ event) (k0 : closed.c0 ≡ clock)
       (k1 : closed.c1 ≡ opened.c1) (k2 : closed.c2 ≡ opened.c2) (k3 : closed.c3 ≡ opened.c3) (k4 : closed.c4 ≡ opened.c4) (k5 : closed.c5 ≡ opened.c5)
-      (sent_is : said.sent ≡ tally.sent) (failed_is : said.failed ≡ tally.failed)
+      (rounds_is : said.rounds ≡ rounds) (sent_is : said.sent ≡ tally.sent) (failed_is : said.failed ≡ tally.failed)
       (rates : (opening : ℕ) (history : List Record) → StandsFor opening gm1 history →
       let x = book_step_moment history 0 in
       (said.held ≡ table_rates history x 0 + table_rates history x 1 + table_rates history x 2 + table_rates history x 3)
       × (said.granted ≡ counted (counts history).granted) × (said.refused ≡ counted (counts history).short)) where
+    abbrev did : DidRounds ports clocks settings rounds (record { gm = gm0; event = opened.p5; clock = opened.c0 }) (record { gm = gm1; event = event; clock = clock }) control control' tally
+    did = whole.did
+
     gm_is : standing_as gm0 settings.capacity [] ≡ opened_as settings
     gm_is = ap (λ c. record { config = c; opening = settings.capacity; past = [] }) config
 
@@ -244,54 +246,81 @@ module _ {P C : Type 0} (ports : Ports P) (clocks : Clocks C) where
         (subst (λ n. WereSent n (map ports.sent (five gm0)) (map ports.sent (five gm1))) (sym sent_is)
         (sent_of (λ i. sends_by (standing_as gm0 settings.capacity []) i did.ran.events) 0 tally.sent did.ran.others_failed did.ran.others_missed (five gm0) (five gm1) handled)))
 
-    were_handed : WereHanded ports (λ i. sends_by (opened_as settings) i did.ran.events) 0 said.sent (senders_of opened) (senders_of closed)
-    were_handed =
+    were_handed_so : WereHanded ports (λ i. sends_by (opened_as settings) i did.ran.events) 0 said.sent (senders_of opened) (senders_of closed)
+    were_handed_so =
         subst (λ (l : List P). WereHanded ports (λ i. sends_by (opened_as settings) i did.ran.events) 0 said.sent l (senders_of closed)) senders_opened
         (subst (λ (l : List P). WereHanded ports (λ i. sends_by (opened_as settings) i did.ran.events) 0 said.sent (five gm0) l) senders_closed
         (subst (λ n. WereHanded ports (λ i. sends_by (opened_as settings) i did.ran.events) 0 n (five gm0) (five gm1)) (sym sent_is)
         (subst (λ g. WereHanded ports (λ i. sends_by g i did.ran.events) 0 tally.sent (five gm0) (five gm1)) gm_is
         (handed_of (λ i. sends_by (standing_as gm0 settings.capacity []) i did.ran.events) 0 tally.sent did.ran.others_failed did.ran.others_missed (five gm0) (five gm1) handled))))
 
-    each : said.sent + said.failed ≡ many_by settings did.ran.events + did.missed
+    were_handed : WereHanded ports (λ i. sends_by (opened_as settings) i (done_events did.done)) 0 said.sent (senders_of opened) (senders_of closed)
+    were_handed = subst (λ es. WereHanded ports (λ i. sends_by (opened_as settings) i es) 0 said.sent (senders_of opened) (senders_of closed)) did.events were_handed_so
+
+    each : said.sent + said.failed ≡ many_by settings (done_events did.done) + did.missed
     each =
         let all : tally.sent + did.ran.others_failed ≡ many_by settings did.ran.events + did.ran.others_missed =
         subst (λ g. tally.sent + did.ran.others_failed ≡ (let n = λ (i : ℕ). length (sends_by g i did.ran.events) in n 0 + n 1 + n 2 + n 3 + n 4) + did.ran.others_missed) gm_is
         (five_each ports (λ i. sends_by (standing_as gm0 settings.capacity []) i did.ran.events) gm0 gm1 tally.sent did.ran.others_failed did.ran.others_missed handled) in
-        omega (arith, all, sent_is, failed_is, did.ran.failures, did.ran.receives)
+        let same : many_by settings did.ran.events ≡ many_by settings (done_events did.done) = ap (many_by settings) did.events in
+        omega (arith, all, same, sent_is, failed_is, did.ran.failures, did.ran.receives)
 
-    has_happened : Happened ports clocks settings opened closed said.sent said.failed
+    was_handed_at : (datagrams : List Departure) (s f m : ℕ) (old new : Option P) → HandledAt ports datagrams s f m old new → WasHandedAt ports old new datagrams
+    was_handed_at datagrams s f m None None h = h.0
+    was_handed_at datagrams s f m None (Some q) h = absurd h
+    was_handed_at datagrams s f m (Some p) None h = absurd h
+    was_handed_at datagrams s f m (Some p) (Some q) h = (s, was_handed datagrams s f m p q h)
+
+    told : AreCounted (opened_as settings) 0 0 did.done × WasHandedAt ports control control' (answers_from settings (opened_as settings) 0 did.done)
+    told =
+        subst (λ g. AreCounted g 0 0 did.done × WasHandedAt ports control control' (answers_from settings g 0 did.done)) gm_is
+        (let both = did.answers settings.capacity [] stood in (both.0, was_handed_at _ did.sent did.failed did.unheard control control' both.1))
+
+    has_happened : Happened ports clocks settings opened closed control control' said
     has_happened = record {
-      rounds = did.took;
-      taken = did.taken;
-      general = subst (λ p. Gave (ports.waiting opened.p4) (ports.waiting p) (general_of did.took)) (sym q4)
-          (subst (λ p. Gave (ports.waiting p) (ports.waiting gm1.reply) (general_of did.took)) p4 did.ran.general_given);
-      event = subst (λ p. Gave (ports.waiting opened.p5) (ports.waiting p) (event_of did.took)) (sym q5) did.ran.event_given;
-      events = did.ran.events;
-      happened = did.ran.happened;
-      moments = subst (λ c. Takes (clocks.moments opened.c0) (clocks.moments c) (happenings_of settings did.took) did.ran.events) (sym k0) did.ran.takes;
-      lawful = is_lawful settings did.ran.events limits capacity;
+      done = did.done;
+      taken = subst (λ n. HaveTaken (rounds_of did.done) n) (sym rounds_is) did.taken;
+      general = subst (λ p. Gave (ports.waiting opened.p4) (ports.waiting p) (general_of (rounds_of did.done))) (sym q4)
+          (subst (λ p. Gave (ports.waiting p) (ports.waiting gm1.reply) (general_of (rounds_of did.done))) p4 did.ran.general_given);
+      event = subst (λ p. Gave (ports.waiting opened.p5) (ports.waiting p) (event_of (rounds_of did.done))) (sym q5) did.ran.event_given;
+      spoken = did.given;
+      all = whole.all;
+      happened = did.happened;
+      moments = subst (λ c. Takes (clocks.moments opened.c0) (clocks.moments c) (happens_from settings 0 did.done) (done_events did.done)) (sym k0)
+          (subst (λ es. Takes (clocks.moments opened.c0) (clocks.moments clock) (happens_from settings 0 did.done) es) did.events did.ran.takes);
+      lawful = is_lawful settings (done_events did.done) limits capacity;
       handed = were_handed;
+      answered = told.1;
+      counted = told.0;
+      within = subst (λ n. AllByRecursion (λ (d : DoneRound). (d.sent ≤ n) × (d.failed ≤ said.failed)) did.done) (sym sent_is)
+          (subst (λ n. AllByRecursion (λ (d : DoneRound). (d.sent ≤ tally.sent) × (d.failed ≤ n)) did.done) (sym failed_is) did.within);
       missed = did.missed;
-      once = did.once;
+      once = subst (λ n. did.missed ≤ 2 * n) (sym rounds_is) did.once;
       each = each;
     }
 
-    module _ (given : Given) (is : IsGiven ports clocks opened closed given) (still : HaveNotRisen (faults_of ports opened) (faults_of ports closed)) where
+    module _ (given : Given) (is : IsGiven ports clocks opened closed given) (spoke : IsSpoken ports control control' given)
+        (still : HaveNotRisen (faults_of ports opened) (faults_of ports closed)) where
       none : tally.failed ≡ 0
       none = sym failed_is ∙ none_together said.failed (faults_of ports opened) (faults_of ports closed) risen still
 
-      happened : happenings_of settings did.took ≡ in_rounds (round_of settings given) (all_rounds settings)
-      happened =
+      all_taken : (happens_from settings 0 did.done ≡ in_rounds (round_of settings given) rounds) × (rounds ≡ rounds_done settings given)
+      all_taken =
           let general = some_is (ports.waiting closed.p4) is.general_still in
           let event_left = some_is (ports.waiting closed.p5) is.event_still in
-          (did.all given general.0 event_left.0 none
-          (ap ports.waiting p4 ∙ is.general, is.event)
-          (ap ports.waiting (sym q4) ∙ general.1, ap ports.waiting (sym q5) ∙ event_left.1)).0
+          let spoken_left = some_is (waits_at ports control') spoke.waits_still in
+          let taken = did.all given general.0 event_left.0 spoken_left.0 none spoke.still
+          (ap ports.waiting p4 ∙ is.general, is.event) spoke.waits
+          (ap ports.waiting (sym q4) ∙ general.1, ap ports.waiting (sym q5) ∙ event_left.1) spoken_left.1 in
+          (taken.0, sym (many_done did.done rounds did.taken) ∙ rounds_are settings (all_rounds settings) did.done given.spoken whole.all taken.4)
+
+      happened : happens_from settings 0 did.done ≡ in_rounds (round_of settings given) (rounds_done settings given)
+      happened = all_taken.0 ∙ ap (in_rounds (round_of settings given)) all_taken.1
 
       events : did.ran.events ≡ served_events settings given
       unfolding served_events
       events =
-          events_are (clocks.moments opened.c0) (clocks.moments clock) given.moments (happenings_of settings did.took) did.ran.events did.ran.takes is.moments
+          events_are (clocks.moments opened.c0) (clocks.moments clock) given.moments (happens_from settings 0 did.done) did.ran.events did.ran.takes is.moments
           (subst (λ c. IsSome (clocks.moments c)) k0 is.moments_still)
           ∙ ap (timed given.moments) happened
 
@@ -336,6 +365,7 @@ module _ {P C : Type 0} (ports : Ports P) (clocks : Clocks C) where
         tells3 = one_served (GoesOn ports) 3 _ _ _ _ p3 q3 five_sent.tells3;
         tells4 = one_served (GoesOn ports) 4 _ _ _ _ p4 q4 five_sent.tells4;
         line = said_is said (served_said settings given)
+            (rounds_is ∙ all_taken.1)
             (sent_is ∙ five_sent.many ∙ many_are)
             (failed_is ∙ none)
             (rates settings.capacity _ stands).1 (rates settings.capacity _ stands).2 (rates settings.capacity _ stands).0;
@@ -346,7 +376,7 @@ module _ {P C : Type 0} (ports : Ports P) (clocks : Clocks C) where
               let e0 = ap length (sends 0) in let e1 = ap length (sends 1) in let e2 = ap length (sends 2) in let e3 = ap length (sends 3) in let e4 = ap length (sends 4) in
               omega (arith, e0, e1, e2, e3, e4)
 
-    pub serves_of : Serves ports clocks settings opened closed said
+    pub serves_of : Serves ports clocks settings opened closed control control' said
     serves_of = record {
       failures = record { risen = risen; just = just; quiet = quiet };
       sent = were_sent;

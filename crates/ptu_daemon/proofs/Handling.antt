@@ -122,6 +122,14 @@ module _ {P : Type 0} (ports : Ports P) where
   all_same xs ys i s f m (p ∷ olds) (q ∷ news) same (s1, f1, m1, s2, f2, m2, e, e', e'', h, hs) =
       (s1, f1, m1, s2, f2, m2, e, e', e'', subst (λ l. Handled ports l s1 f1 m1 p q) (sym (same i)) h, all_same xs ys (i + 1) s2 f2 m2 olds news same hs)
 
+  -- no more receives failed than calls did
+  pub all_within : (sends : ℕ → List Departure) (i s f m : ℕ) (olds news : List P) → AllHandled ports sends i s f m olds news → m ≤ f
+  all_within sends i s f m [] [] h = let none : m ≡ 0 = h.2 in omega arith
+  all_within sends i s f m [] (p ∷ news) h = absurd h
+  all_within sends i s f m (p ∷ olds) [] h = absurd h
+  all_within sends i s f m (p ∷ olds) (q ∷ news) (s1, f1, m1, s2, f2, m2, e, e', e'', h, hs) =
+      omega (arith, e', e'', h.within, all_within sends (i + 1) s2 f2 m2 olds news hs)
+
   -- the five ports of a grandmaster
   pub five_handled : (sends : ℕ → List Departure) (old new : KeptGm P) (s0 f0 s1 f1 s2 f2 s3 f3 s4 f4 missed sent failed : ℕ) →
       Handled ports (sends 0) s0 f0 0 old.s0.port new.s0.port → Handled ports (sends 1) s1 f1 0 old.s1.port new.s1.port →

@@ -4,18 +4,18 @@ use Rattle.std.specs.{Prelude.{IfErr, OnOk}, List.{AllByRecursion, items_where_t
 use Rattle.ptu_outside.specs.declared.{clock.Clock.{Ghosts as Clocks}, endpoint.Endpoint.{Endpoint}}
 use Rattle.ptu_outside.specs.declared.{opened.Opened.{Opened}, port.Port.{Ghosts as Ports}, sink.Sink.{Ghosts as Sinks}}
 use Rattle.ptu_outside.specs.{Departure.{Departure}, Handing.{HasPut, HasPutFront}, Telling.{IfTold, append_told}}
-use Rattle.ptu_outside.specs.{Faults.{HasRisen}, HandsOver.{SentOf}}
-use Rattle.ptu_config.specs.{declared.settings.GmSettings.{GmSettings}, Rounds.{all_rounds}}
-use Rattle.ptu_outside.specs.{Handed.{SentPart, WasHanded}, Ports.{HaveNotRisen}}
+use Rattle.ptu_outside.specs.HandsOver.{SentOf}
+use Rattle.ptu_config.specs.declared.settings.GmSettings.{GmSettings}
+use Rattle.ptu_outside.specs.{Faults.{HasRisen}, Handed.{SentPart, WasHanded}, Ports.{HaveNotRisen}}
 use Rattle.ptu_outside.specs.declared.fault.DaemonFault.{DaemonFault}
 use Rattle.ptu_outside.specs.declared.fault.DaemonFault.TheVariants as faults
 use Rattle.ptu_shared.specs.{Histories.{SendsLawfully}, Opening.{seen_of}}
 use Rattle.ptu_lanes.specs.{Sending.{GoesOn, WasSent}, Served.{ExchangedAll, ServesByLanes, faults_of, replies_around}}
 use Rattle.ptu_daemon.specs.{declared.two_host.Flags.{Flags}, Hosts.{clear, flagged_by, over, two_steps}}
 use Rattle.ptu_daemon.specs.declared.step.Step.TheVariants.{Other}
-use Rattle.ptu_daemon.specs.{Pairs.{pair, pair_by, pairs, step_at}, Telling.{ceases_in_two, is_half, told_by}}
+use Rattle.ptu_daemon.specs.{Pairs.{pair, pair_by, pairs, step_at}, Telling.{InTwoSteps, ceases_in_two, is_half, told_by}}
 use Rattle.ptu_daemon.proofs.Pairs.{grown-pairs}
-use Rattle.ptu_daemon.specs.{Answers.{HasAnswered}, Events.{Given, config_of, served_events}}
+use Rattle.ptu_daemon.specs.{Answers.{HasAnswered}, Commands.{IsSpoken, served_events}, Events.{Given, config_of}}
 use Rattle.ptu_daemon.specs.Served.{Said, closing_line, numbers_in, opened_as, served_by}
 use Rattle.ptu_daemon.specs.Serving.{AreServed, HasServed, IsGiven, Serves, ServesEitherWay}
 use Rattle.ptu_daemon.specs.ServingInTwo.{AnswersBelow, ArePairsBelow, AreSentBelow, AreSentInPairs, HasServedInTwo, IsSentInPairs, SendsBelow, ServesInPairs}
@@ -147,45 +147,49 @@ module _ {P C : Type 0} (ports : Ports P) (clocks : Clocks C) (settings : GmSett
     p3 = pairs_below before.p3 after.p3 flags.p3 3 s.lawful.p3;
   }
 
-  below_either : (before after : Opened P C) (flags : Flags) (said : Said) →
-      ServesEitherWay (two_steps ports) clocks settings (flagged_by clear before) (flagged_by flags after) said →
+  below_either : (before after : Opened P C) (flags : Flags) (control control' : Option (InTwoSteps P)) (said : Said) →
+      ServesEitherWay (two_steps ports) clocks settings (flagged_by clear before) (flagged_by flags after) control control' said →
       (AnswersBelow ports clocks settings before after flags said × SendsBelow ports settings before after flags)
-      ⊎ ServesInPairs ports clocks settings before after
-  below_either before after flags said (inl lanes) = inl (answers_below before after flags said lanes, sends_below before after flags said lanes)
-  below_either before after flags said (inr one) = inr (λ given told still. paired before after flags said given (one.served given told still))
+      ⊎ ServesInPairs ports clocks settings before after control control'
+  below_either before after flags control control' said (inl lanes) =
+      inl (answers_below before after flags said lanes.3, sends_below before after flags said lanes.3)
+  below_either before after flags control control' said (inr one) =
+      inr (λ given told spoke still. paired before after flags said given (one.served given told spoke still))
 
-  pub in_two : (opening back : Option (Opened P C)) (flags : Flags) (said : Said) →
-      HasServed (two_steps ports) clocks settings (option_map (flagged_by clear) opening) (option_map (flagged_by flags) back) said →
-      HasServedInTwo ports clocks settings opening back said
-  in_two opening back flags said h = record {
+  pub in_two : (opening back : Option (Opened P C)) (speaking spoken : Option P) (flags : Flags) (flag : Bool) (said : Said) →
+      HasServed (two_steps ports) clocks settings (option_map (flagged_by clear) opening) (option_map (flagged_by flags) back)
+      (option_map (over false) speaking) (option_map (over flag) spoken) said →
+      HasServedInTwo ports clocks settings opening back speaking spoken said
+  in_two opening back speaking spoken flags flag said h = record {
     flags = flags;
+    control_flag = flag;
     served = h;
-    in_pairs = λ senders before after is is' given told still.
-        paired before after flags said given ((serves before after is is' senders).served given told still);
-    by_lanes = λ senders before after is is'. below_either before after flags said (either before after is is' senders);
+    in_pairs = λ senders before after is is' given told spoke still.
+        paired before after flags said given ((serves before after is is' senders).served given told spoke still);
+    by_lanes = λ senders before after is is'. below_either before after flags h.control h.control' said (either before after is is' senders);
   }
     where
       either : (before after : Opened P C) → opening ≡ Some before → back ≡ Some after → 1 ≤ settings.senders →
-          ServesEitherWay (two_steps ports) clocks settings (flagged_by clear before) (flagged_by flags after) said
+          ServesEitherWay (two_steps ports) clocks settings (flagged_by clear before) (flagged_by flags after) h.control h.control' said
       either before after is is' senders =
           let opened_is : h.opened ≡ flagged_by clear before =
           subst (λ (o : Option (Opened P C)). IfSome (option_map (flagged_by clear) o) (λ told. h.opened ≡ told)) is h.opens in
           let given_back : Some h.closed ≡ Some (flagged_by flags after) =
           subst (λ (o : Option (Opened P C)). IfTold (option_map (flagged_by flags) o) (Some h.closed)) is' h.gives_back in
           let closed_is : h.closed ≡ flagged_by flags after = cc in
-          subst (λ o. ServesEitherWay (two_steps ports) clocks settings o (flagged_by flags after) said) opened_is
-          (subst (λ c. ServesEitherWay (two_steps ports) clocks settings h.opened c said) closed_is (h.by_lanes senders))
+          subst (λ o. ServesEitherWay (two_steps ports) clocks settings o (flagged_by flags after) h.control h.control' said) opened_is
+          (subst (λ c. ServesEitherWay (two_steps ports) clocks settings h.opened c h.control h.control' said) closed_is (h.by_lanes senders))
 
       serves : (before after : Opened P C) → opening ≡ Some before → back ≡ Some after → settings.senders ≡ 0 →
-          Serves (two_steps ports) clocks settings (flagged_by clear before) (flagged_by flags after) said
+          Serves (two_steps ports) clocks settings (flagged_by clear before) (flagged_by flags after) h.control h.control' said
       serves before after is is' senders =
           let opened_is : h.opened ≡ flagged_by clear before =
           subst (λ (o : Option (Opened P C)). IfSome (option_map (flagged_by clear) o) (λ told. h.opened ≡ told)) is h.opens in
           let given_back : Some h.closed ≡ Some (flagged_by flags after) =
           subst (λ (o : Option (Opened P C)). IfTold (option_map (flagged_by flags) o) (Some h.closed)) is' h.gives_back in
           let closed_is : h.closed ≡ flagged_by flags after = cc in
-          subst (λ o. Serves (two_steps ports) clocks settings o (flagged_by flags after) said) opened_is
-          (subst (λ c. Serves (two_steps ports) clocks settings h.opened c said) closed_is (h.serves senders))
+          subst (λ o. Serves (two_steps ports) clocks settings o (flagged_by flags after) h.control h.control' said) opened_is
+          (subst (λ c. Serves (two_steps ports) clocks settings h.opened c h.control h.control' said) closed_is (h.serves senders))
 
 -- ---- of an answer
 
@@ -200,12 +204,12 @@ if_err_said W A B (Ok x) f h = tt
 if_err_said W A B (Err e) f h = λ is. let (said, put, served) = h is in (said, put, f said served)
 
 -- another word for what was served
-pub answered_by : {K : Type 0} (sinks : Sinks K) (sink sink' : K) (failed failed' : ℕ) (opened_at : Option Endpoint) (settings : GmSettings) (A B : Said → Type 0)
+pub answered_by : {K : Type 0} (sinks : Sinks K) (sink sink' : K) (failed failed' : ℕ) (opened_at : Option Endpoint) (control_at : Option ℕ) (settings : GmSettings) (A B : Said → Type 0)
     (r : Result (Unit {0}) DaemonFault) → ((said : Said) → A said → B said)
-    → HasAnswered sinks sink sink' failed failed' opened_at settings A r → HasAnswered sinks sink sink' failed failed' opened_at settings B r
-answered_by sinks sink sink' failed failed' opened_at settings A B r f h = record {
-  served = on_ok_said (λ said. HasPut sinks.written sinks.handed sink sink' (closing_line (all_rounds settings) said ∷ [])) A B r f h.served;
-  part = if_err_said (λ said. HasPutFront sinks.written sinks.handed sink sink' (closing_line (all_rounds settings) said)) A B r f h.part;
+    → HasAnswered sinks sink sink' failed failed' opened_at control_at settings A r → HasAnswered sinks sink sink' failed failed' opened_at control_at settings B r
+answered_by sinks sink sink' failed failed' opened_at control_at settings A B r f h = record {
+  served = on_ok_said (λ said. HasPut sinks.written sinks.handed sink sink' (closing_line said ∷ [])) A B r f h.served;
+  part = if_err_said (λ said. HasPutFront sinks.written sinks.handed sink sink' (closing_line said)) A B r f h.part;
   nothing = h.nothing;
   write = h.write;
   still = h.still;
@@ -213,4 +217,5 @@ answered_by sinks sink sink' failed failed' opened_at settings A B r f h = recor
   opens = h.opens;
   host_still = h.host_still;
   at = h.at;
+  spoken_at = h.spoken_at;
 }

@@ -23,7 +23,7 @@ use Rattle.ptu_world.specs.Deeds.{Grandmaster}
 use Rattle.ptu_world.specs.Promises.{IsDecidedByRoom, IsRun, Request, client, decision, history}
 use Rattle.ptu_world.proofs.Deciding.{is_decided}
 use Rattle.ptu_daemon.specs.{Events.{config_of}, Lawful.{IsLawful, IsReplied, IsTaken, history_by, served_gm, table_messages, timings}}
-use Rattle.ptu_daemon.specs.{Ran.{after_all}, Sends.{Standing, event_sends, heard_sends, sends_by, standing_after}, Served.{opened_as}}
+use Rattle.ptu_daemon.specs.{Sends.{Standing, after_all, event_sends, heard_sends, sends_by, standing_after}, Served.{opened_as}}
 use Rattle.ptu_daemon.proofs.{Messages.{events_tell, no_fifth}, Running.{after_all-history, after_is, sends_by-append}}
 
 -- ---- a REQUEST among items
@@ -126,7 +126,7 @@ module _ (settings : GmSettings) where
     run : IsWithinLimits (config_of settings) → IsCapacity settings.capacity → IsRun settings.ip r.gm
     run limits capacity = subst (λ g. IsRun settings.ip g) (sym is.gm) (record {
       address = refl;
-      config = limits;
+      config = record { domain = limits.domain; max_duration = limits.max_duration; epoch = limits.epoch };
       capacity = capacity;
       events = flat_map (events_of (config_of settings)) earlier;
       past = refl;

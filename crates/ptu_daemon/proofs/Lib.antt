@@ -3,6 +3,8 @@ pub mod Turning
 pub mod Changing
 pub mod Taking
 pub mod Running
+pub mod Commands
+pub mod Orders
 pub mod Receiving
 pub mod Channels
 pub mod Rounds

@@ -29,8 +29,8 @@ use Rattle.ptu_grandmaster.specs.declared.driving.GmEvent.TheVariants.{Take, Tur
 use Rattle.ptu_world.specs.Deeds.{Grandmaster}
 use Rattle.ptu_world.specs.Promises.{Timing, message_in, messages_in, timing_to}
 use Rattle.ptu_world.proofs.Messages.{heard_told, turn_told}
-use Rattle.ptu_daemon.specs.{Lawful.{table_message, table_messages, timings}, Ran.{after_all}}
-use Rattle.ptu_daemon.specs.Sends.{Standing, by, event_sends, heard_sends, sends_by, standing_after}
+use Rattle.ptu_daemon.specs.{Lawful.{table_message, table_messages, timings}}
+use Rattle.ptu_daemon.specs.Sends.{Standing, after_all, by, event_sends, heard_sends, sends_by, standing_after}
 
 -- ---- lists
 

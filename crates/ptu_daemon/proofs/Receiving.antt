@@ -13,7 +13,7 @@ use Rattle.ptu_daemon.specs.Ran.{Handled, Ran, Received, Receives, arrived}
 use Rattle.ptu_daemon.proofs.Handling.{handled_idle, handled_quietly, handled_same}
 use Rattle.ptu_daemon.proofs.Running.{gives_none, ran_quietly}
 
-gives_one : (old new : Option (List Arrival)) (a : Arrival) → IsFirstTold old a → IfTold new (rest_told old) → Gave old new (a ∷ [])
+pub gives_one : (old new : Option (List Arrival)) (a : Arrival) → IsFirstTold old a → IfTold new (rest_told old) → Gave old new (a ∷ [])
 gives_one old None a first rest = tt
 gives_one None (Some left) a first rest = absurd (cc)
 gives_one (Some []) (Some left) a first rest = absurd (cc)
@@ -22,28 +22,29 @@ gives_one (Some (x ∷ xs)) (Some left) a first rest =
     let two : drop 1 (x ∷ xs) ≡ left = cc in
     ap (λ y. Some (y ∷ xs)) one ∙ ap (λ l. Some (a ∷ l)) two
 
-gives_kept : (old new : Option (List Arrival)) → IfTold new old → Gave old new []
+pub gives_kept : (old new : Option (List Arrival)) → IfTold new old → Gave old new []
 gives_kept old None kept = tt
 gives_kept old (Some left) kept = kept
 
-left_none : (old new : Option (List Arrival)) → IsEmptyTold old → IfTold new old → IfSome new (λ left. left ≡ [])
+pub left_none : (old new : Option (List Arrival)) → IsEmptyTold old → IfTold new old → IfSome new (λ left. left ≡ [])
 left_none old None empty kept = tt
 left_none None (Some left) empty kept = absurd (cc)
 left_none (Some xs) (Some left) empty kept = let same : xs ≡ left = cc in sym same ∙ empty
 
 -- how many receives failed, of one
-abbrev lost : Result (Option (ℕ × ℕ)) Failed → ℕ
+abbrev pub lost : Result (Option (ℕ × ℕ)) Failed → ℕ
 lost (Ok got) = 0
 lost (Err failed) = 1
 
-module _ {P C : Type 0} (ports : Ports P) (clocks : Clocks C) where
-  receive_handled : (port port' : P) (bytes : List ℕ) (result : Result (Option (ℕ × ℕ)) Failed) → Receives ports port port' bytes result →
+module _ {P : Type 0} (ports : Ports P) where
+  pub receive_handled : (port port' : P) (bytes : List ℕ) (result : Result (Option (ℕ × ℕ)) Failed) → Receives ports port port' bytes result →
       Handled ports [] 0 (lost result) (lost result) port port'
   receive_handled port port' bytes (Ok got) r = handled_quietly ports port port' r.sent r.quiet
   receive_handled port port' bytes (Err failed) r =
       handled_idle ports port port' 1 r.sent r.risen (λ counts. just_once (ports.faults port) (ports.faults port') (r.once counts))
       (λ none. absurd (omega (arith, none))) r.no_fall
 
+module _ {P C : Type 0} (ports : Ports P) (clocks : Clocks C) where
   -- by the port of the general channel
   came_general : (old : Daemon P C) (port' : P) (general : List Arrival) (failed : ℕ) → Handled ports [] 0 failed failed old.gm.reply port' →
       Gave (ports.waiting old.gm.reply) (ports.waiting port') general →
@@ -72,27 +73,27 @@ module _ {P C : Type 0} (ports : Ports P) (clocks : Clocks C) where
       Received ports clocks channels.General old (record old { gm = record (old.gm) { reply = port' } }) bytes result
   received_general old port' bytes (Ok (Some got)) r = (
     r.within,
-    came_general old port' (arrived got.0 (take got.1 bytes) ∷ []) 0 (receive_handled old.gm.reply port' bytes (Ok (Some got)) r)
+    came_general old port' (arrived got.0 (take got.1 bytes) ∷ []) 0 (receive_handled ports old.gm.reply port' bytes (Ok (Some got)) r)
         (gives_one (ports.waiting old.gm.reply) (ports.waiting port') _ r.first r.rest),
   )
   received_general old port' bytes (Ok None) r = (
-    came_general old port' [] 0 (receive_handled old.gm.reply port' bytes (Ok None) r) (gives_kept (ports.waiting old.gm.reply) (ports.waiting port') r.left),
+    came_general old port' [] 0 (receive_handled ports old.gm.reply port' bytes (Ok None) r) (gives_kept (ports.waiting old.gm.reply) (ports.waiting port') r.left),
     left_none (ports.waiting old.gm.reply) (ports.waiting port') r.nothing r.left,
   )
   received_general old port' bytes (Err e) r =
-      came_general old port' [] 1 (receive_handled old.gm.reply port' bytes (Err e) r) (gives_kept (ports.waiting old.gm.reply) (ports.waiting port') r.kept)
+      came_general old port' [] 1 (receive_handled ports old.gm.reply port' bytes (Err e) r) (gives_kept (ports.waiting old.gm.reply) (ports.waiting port') r.kept)
 
   pub received_event : (old : Daemon P C) (port' : P) (bytes : List ℕ) (result : Result (Option (ℕ × ℕ)) Failed) →
       Receives ports old.event port' bytes result →
       Received ports clocks channels.Event old (record old { event = port' }) bytes result
   received_event old port' bytes (Ok (Some got)) r = (
     r.within,
-    came_event old port' (arrived got.0 (take got.1 bytes) ∷ []) 0 r.sent (receive_handled old.event port' bytes (Ok (Some got)) r)
+    came_event old port' (arrived got.0 (take got.1 bytes) ∷ []) 0 r.sent (receive_handled ports old.event port' bytes (Ok (Some got)) r)
         (gives_one (ports.waiting old.event) (ports.waiting port') _ r.first r.rest),
   )
   received_event old port' bytes (Ok None) r = (
-    came_event old port' [] 0 r.sent (receive_handled old.event port' bytes (Ok None) r) (gives_kept (ports.waiting old.event) (ports.waiting port') r.left),
+    came_event old port' [] 0 r.sent (receive_handled ports old.event port' bytes (Ok None) r) (gives_kept (ports.waiting old.event) (ports.waiting port') r.left),
     left_none (ports.waiting old.event) (ports.waiting port') r.nothing r.left,
   )
   received_event old port' bytes (Err e) r =
-      came_event old port' [] 1 r.sent (receive_handled old.event port' bytes (Err e) r) (gives_kept (ports.waiting old.event) (ports.waiting port') r.kept)
+      came_event old port' [] 1 r.sent (receive_handled ports old.event port' bytes (Err e) r) (gives_kept (ports.waiting old.event) (ports.waiting port') r.kept)

@@ -1,5 +1,5 @@
 -- What parts of the daemon have done, one after the other.
-use Rattle.std.proofs.Common.{◌≡◌, ◌∙◌, ℕ, ◌+◌, List, [], ◌∷◌, ◌++◌, flat_map, length, Option, Some, None, refl, sym, ap, subst, arith, append_assoc, length-append, Result, Ok, Err}
+use Rattle.std.proofs.Common.{◌≡◌, ◌∙◌, ℕ, ◌+◌, List, [], ◌∷◌, ◌++◌, flat_map, length, Option, Some, None, refl, sym, ap, ap₂, subst, arith, append_assoc, length-append, Result, Ok, Err}
 use Rattle.std.specs.{Result.{IfOk}, Option.{option_map}}
 use Rattle.std.proofs.lemmas.List.{append-nil}
 use Rattle.ptu_outside.specs.declared.{arrival.Arrival.{Arrival}, clock.Clock.{Ghosts as Clocks}}
@@ -7,14 +7,16 @@ use Rattle.ptu_outside.specs.{declared.port.Port.{Ghosts as Ports}, Clocks.{afte
 use Rattle.ptu_outside.specs.Telling.{IfTold, IsFirstTold}
 use Rattle.ptu_history.specs.{Core.{history_after}, History.{Record}}
 use Rattle.ptu_history.proofs.Histories.{history_after-append}
-use Rattle.ptu_gm_messages.specs.Deciding.{opened_with}
+use Rattle.ptu_profile.specs.declared.grandmaster.GmConfig.{GmConfig}
+use Rattle.ptu_gm_messages.specs.{Deciding.{events_heard, opened_with}, Items.{heard_in}}
+use Rattle.ptu_grandmaster.specs.declared.driving.GmEvent.TheVariants.{Take, Turn, Class, Capacity}
 use Rattle.ptu_grandmaster.specs.{declared.driving.GmEvent.{GmEvent}, Driven.{events_of}, Gm.{StandsFor}}
 use Rattle.ptu_outside.specs.Rounds.{moments_after, next_of, timed}
-use Rattle.ptu_outside.specs.Taken.{Gave}
+use Rattle.ptu_outside.specs.Taken.{Gave, HappenedAt}
 use Rattle.ptu_outside.proofs.Taken.{happened-append}
 use Rattle.ptu_daemon.specs.{declared.daemon.Daemon.{Daemon}, Events.{Happening, Takes}}
-use Rattle.ptu_daemon.specs.Ran.{AllHandled, Does, Handled, Ran, after_all, five, standing_as}
-use Rattle.ptu_daemon.specs.Sends.{Standing, event_sends, sends_by, standing_after}
+use Rattle.ptu_daemon.specs.Ran.{AllHandled, Does, Handled, Ran, five, standing_as}
+use Rattle.ptu_daemon.specs.Sends.{Standing, after_all, class_after, class_by, config_after, event_sends, sends_by, standing_after}
 use Rattle.ptu_daemon.proofs.Handling.{all_more, all_same, five_handled, handled_more, handled_same}
 use Rattle.ptu_lanes.proofs.Moments.{moments_add}
 
@@ -57,13 +59,18 @@ takes_more old (Some middle) (Some left) xs ys es fs (moments, e, events, after)
       after' ∙ ap (moments_after (length ys)) is ∙ sym (moments_add (length xs) (length ys) moments) ∙ ap (λ n. moments_after n moments) (sym (length-append xs ys)),
     )
 
+-- where nothing happens there are no events
+pub none_happened : (events : List GmEvent) → HappenedAt [] events → events ≡ []
+none_happened [] h = refl
+none_happened (event ∷ events) h = absurd h
+
 -- ---- what waits
 
 pub gives_none : (told : Option (List Arrival)) → Gave told told []
 gives_none None = tt
 gives_none (Some left) = refl
 
-gives_more : (old now new : Option (List Arrival)) (xs ys : List Arrival) → Gave old now xs → Gave now new ys → Gave old new (xs ++ ys)
+pub gives_more : (old now new : Option (List Arrival)) (xs ys : List Arrival) → Gave old now xs → Gave now new ys → Gave old new (xs ++ ys)
 gives_more old now None xs ys h k = tt
 gives_more old None (Some left) xs ys h k = absurd (cc)
 gives_more old (Some middle) (Some left) xs ys h k =
@@ -76,9 +83,31 @@ pub after_all-append : (gm : Standing) (xs ys : List GmEvent) → after_all gm (
 after_all-append gm [] ys = refl
 after_all-append gm (x ∷ xs) ys = after_all-append (standing_after gm x) xs ys
 
-pub after_is : (gm : Standing) (xs : List GmEvent) → after_all gm xs ≡ record gm { past = (after_all gm xs).past }
+pub after_is : (gm : Standing) (xs : List GmEvent) →
+    after_all gm xs ≡ record { config = config_after gm.config xs; opening = gm.opening; past = (after_all gm xs).past }
 after_is gm [] = refl
 after_is gm (x ∷ xs) = after_is (standing_after gm x) xs
+
+-- the class after more events
+class_more : (class : ℕ) (xs ys : List GmEvent) → class_after class (xs ++ ys) ≡ class_after (class_after class xs) ys
+class_more class [] ys = refl
+class_more class (x ∷ xs) ys = class_more (class_by class x) xs ys
+
+-- an event does not know the class
+heard_class : (config : GmConfig) (class : ℕ) (octets : List ℕ) → heard_in (record config { class = class }) octets ≡ heard_in config octets
+unfolding heard_in
+heard_class config class octets = refl
+
+pub events_class : (config : GmConfig) (class : ℕ) (event : GmEvent) → events_of (record config { class = class }) event ≡ events_of config event
+events_class config class (Take t from octets) = ap (events_heard t from) (heard_class config class octets)
+events_class config class (Turn t table) = refl
+events_class config class (Class new) = refl
+events_class config class (Capacity t capacity) = refl
+
+all_class : (config : GmConfig) (class : ℕ) (events : List GmEvent) →
+    flat_map (events_of (record config { class = class })) events ≡ flat_map (events_of config) events
+all_class config class [] = refl
+all_class config class (event ∷ later) = ap₂ (λ xs ys. xs ++ ys) (events_class config class event) (all_class config class later)
 
 -- the history of the events
 pub after_all-history : (gm : Standing) (events : List GmEvent) →
@@ -87,6 +116,7 @@ unfolding history_after
 after_all-history gm [] = refl
 after_all-history gm (event ∷ later) =
     after_all-history (standing_after gm event) later
+    ∙ ap (history_after (opened_with gm.opening gm.config) (standing_after gm event).past) (all_class gm.config (class_by gm.config.class event) later)
     ∙ sym (history_after-append (opened_with gm.opening gm.config) gm.past (events_of gm.config event) (flat_map (events_of gm.config) later))
 
 pub sends_by-append : (gm : Standing) (i : ℕ) (xs ys : List GmEvent) → sends_by gm i (xs ++ ys) ≡ sends_by gm i xs ++ sends_by (after_all gm xs) i ys
@@ -171,7 +201,8 @@ module _ {P C : Type 0} (ports : Ports P) (clocks : Clocks C) where
       Ran ports clocks old new (xs ++ ys) (gs ++ gs') (es ++ es') (s + s') (f + f') (m + m')
   ran_more old now new xs ys gs gs' es es' s f m s' f' m' h k = record {
     events = h.events ++ k.events;
-    config = k.config ∙ h.config;
+    config = k.config ∙ ap (λ c. config_after c k.events) h.config
+        ∙ ap (λ n. record (old.gm.config) { class = n }) (sym (class_more old.gm.config.class h.events k.events));
     happened = happened-append xs ys h.events k.events h.happened k.happened;
     takes = takes_more (clocks.moments old.clock) (clocks.moments now.clock) (clocks.moments new.clock) xs ys h.events k.events h.takes k.takes;
     general_given = gives_more (ports.waiting old.gm.reply) (ports.waiting now.gm.reply) (ports.waiting new.gm.reply) gs gs' h.general_given k.general_given;
@@ -202,6 +233,13 @@ module _ {P C : Type 0} (ports : Ports P) (clocks : Clocks C) where
                 (λ i. sends_by-append gm i h.events k.events ∙ ap (λ g. sends_by gm i h.events ++ sends_by g i k.events) (sym is)) one.1 two.1,
           )
 
+  -- likewise, with the events of both
+  pub ran_more_with : (old now new : Daemon P C) (xs ys : List Happening) (gs gs' es es' : List Arrival) (s f m s' f' m' : ℕ) →
+      (h : Ran ports clocks old now xs gs es s f m) → (k : Ran ports clocks now new ys gs' es' s' f' m') →
+      (r : Ran ports clocks old new (xs ++ ys) (gs ++ gs') (es ++ es') (s + s') (f + f') (m + m')) × (r.events ≡ h.events ++ k.events)
+  unfolding ran_more
+  ran_more_with old now new xs ys gs gs' es es' s f m s' f' m' h k = (ran_more old now new xs ys gs gs' es es' s f m s' f' m' h k, refl)
+
   -- the same, said otherwise
   pub ran_as : (old new : Daemon P C) (xs xs' : List Happening) (gs gs' es es' : List Arrival) (s s' f f' m m' : ℕ) →
       xs ≡ xs' → gs ≡ gs' → es ≡ es' → s ≡ s' → f ≡ f' → m ≡ m' → Ran ports clocks old new xs gs es s f m → Ran ports clocks old new xs' gs' es' s' f' m'
@@ -209,3 +247,15 @@ module _ {P C : Type 0} (ports : Ports P) (clocks : Clocks C) where
       subst (λ x. Ran ports clocks old new x gs' es' s' f' m') a (subst (λ x. Ran ports clocks old new xs x es' s' f' m') b
       (subst (λ x. Ran ports clocks old new xs gs x s' f' m') c (subst (λ x. Ran ports clocks old new xs gs es x f' m') d
       (subst (λ x. Ran ports clocks old new xs gs es s x m') e (subst (λ x. Ran ports clocks old new xs gs es s f x) g h)))))
+
+  -- and with the same events
+  pub ran_as_with : (old new : Daemon P C) (xs xs' : List Happening) (gs gs' es es' : List Arrival) (s s' f f' m m' : ℕ) →
+      xs ≡ xs' → gs ≡ gs' → es ≡ es' → s ≡ s' → f ≡ f' → m ≡ m' → (h : Ran ports clocks old new xs gs es s f m) →
+      (r : Ran ports clocks old new xs' gs' es' s' f' m') × (r.events ≡ h.events)
+  ran_as_with old new xs xs' gs gs' es es' s s' f f' m m' a b c d e g h =
+      subst (λ x. (r : Ran ports clocks old new x gs' es' s' f' m') × (r.events ≡ h.events)) a
+      (subst (λ x. (r : Ran ports clocks old new xs x es' s' f' m') × (r.events ≡ h.events)) b
+      (subst (λ x. (r : Ran ports clocks old new xs gs x s' f' m') × (r.events ≡ h.events)) c
+      (subst (λ x. (r : Ran ports clocks old new xs gs es x f' m') × (r.events ≡ h.events)) d
+      (subst (λ x. (r : Ran ports clocks old new xs gs es s x m') × (r.events ≡ h.events)) e
+      (subst (λ x. (r : Ran ports clocks old new xs gs es s f x) × (r.events ≡ h.events)) g (h, refl))))))

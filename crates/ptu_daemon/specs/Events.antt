@@ -4,8 +4,8 @@ use Rattle.ptu_outside.specs.declared.{arrival.Arrival.{Arrival}, endpoint.Endpo
 use Rattle.ptu_profile.specs.declared.grandmaster.GmConfig.{GmConfig}
 use Rattle.ptu_grandmaster.specs.declared.driving.GmEvent.{GmEvent}
 use Rattle.ptu_grandmaster.specs.declared.driving.GmEvent.TheVariants.{Take, Turn, Capacity}
-use Rattle.ptu_config.specs.{declared.settings.GmSettings.{GmSettings}, Rounds.{all_rounds}}
-use Rattle.ptu_outside.specs.{Rounds.{in_rounds, moments_after, taken_in, timed}, Taken.{Round, in_these}}
+use Rattle.ptu_config.specs.declared.settings.GmSettings.{GmSettings}
+use Rattle.ptu_outside.specs.{Rounds.{moments_after, taken_in, timed}, Taken.{Round}}
 
 -- how the grandmaster is set up
 abbrev pub config_of : GmSettings → GmConfig
@@ -25,10 +25,11 @@ endpoint_of settings = record {
   general_port = settings.general_port;
 }
 
--- what waits at ports 4 and 5, and the moments of clock 0
+-- what waits at ports 4 and 5 and at the control port, nothing where there is none, and the moments of clock 0
 pub record Given : Type 0 where
   pub general : List Arrival
   pub event : List Arrival
+  pub spoken : List Arrival
   pub moments : List ℕ
 
 -- what happens at the moment that it is handed
@@ -50,30 +51,19 @@ change_in settings before = change_to (settings.change_round == before + 1) sett
 abbrev pub turns : List Happening
 turns = (λ t. Turn t 0) ∷ (λ t. Turn t 1) ∷ (λ t. Turn t 2) ∷ (λ t. Turn t 3) ∷ []
 
--- what happens in such a round, which took this: the change, the datagrams, those of the general channel first, and the turns
+-- what happens in such a round but by the control port, which took this: the change, the datagrams, those of the general channel
+-- first, and the turns
 abbrev pub round_with : GmSettings → ℕ → Round → List Happening
 round_with settings before round =
     change_in settings before ++ map taking (round.general ++ round.event) ++ turns
-
--- what happens in rounds that took these, from the first round on
-abbrev pub happenings_of : GmSettings → List Round → List Happening
-happenings_of settings rounds = in_these (round_with settings) 0 rounds
 
 -- what a round takes where this is given
 abbrev pub round_given : Given → ℕ → Round
 round_given given before =
     record { general = taken_in before given.general; event = taken_in before given.event }
 
--- what happens in it
-abbrev pub round_of : GmSettings → Given → ℕ → List Happening
-round_of settings given before = round_with settings before (round_given given before)
-
 -- the moments of a clock that told these before, and tells these after, were taken for what happens, one after the other
 abbrev pub Takes : Option (List ℕ) → Option (List ℕ) → List Happening → List GmEvent → Type 0
 Takes old new happenings events =
     IfSome new (λ left. (moments : List ℕ) × (old ≡ Some moments) × (events ≡ timed moments happenings)
     × (left ≡ moments_after (length happenings) moments))
-
--- the events of all rounds, each at a new moment
-unfoldable pub served_events : GmSettings → Given → List GmEvent
-served_events settings given = timed given.moments (in_rounds (round_of settings given) (all_rounds settings))

@@ -15,7 +15,7 @@ use Rattle.ptu_grandmaster.specs.Driven.{driven_history}
 use Rattle.ptu_config.specs.declared.settings.GmSettings.{GmSettings}
 use Rattle.ptu_world.specs.Deeds.{Grandmaster}
 use Rattle.ptu_world.specs.Promises.{IsDecidedByRoom, Request, Timing, decision, message_in, timing_to}
-use Rattle.ptu_daemon.specs.{Events.{config_of}, Sends.{sends_by}, Served.{opened_as}}
+use Rattle.ptu_daemon.specs.{Events.{config_of}, Sends.{config_after, sends_by}, Served.{opened_as}}
 
 -- the history that the events make
 abbrev pub history_by : GmSettings → List GmEvent → List Record
@@ -24,7 +24,12 @@ history_by settings events = driven_history (config_of settings) settings.capaci
 -- the grandmaster after them
 abbrev pub served_gm : GmSettings → List GmEvent → Grandmaster
 served_gm settings events =
-    record { ip = settings.ip; config = config_of settings; capacity = settings.capacity; past = history_by settings events }
+    record {
+      ip = settings.ip;
+      config = config_after (config_of settings) events;
+      capacity = settings.capacity;
+      past = history_by settings events;
+    }
 
 -- ---- messages
 

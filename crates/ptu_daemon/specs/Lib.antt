@@ -1,11 +1,13 @@
 pub mod Events
 pub mod Sends
+pub mod Commands
 pub mod Served
 pub mod Lawful
 pub mod Answers
 pub mod Serving
 pub mod Counting
 pub mod Ran
+pub mod Obeying
 pub mod ServingInTwo
 pub mod Steps
 pub mod Pairs

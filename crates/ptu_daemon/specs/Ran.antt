@@ -11,13 +11,13 @@ use Rattle.ptu_history.specs.History.{Record}
 use Rattle.ptu_grandmaster.specs.{declared.driving.GmEvent.{GmEvent}, Gm.{KeptGm, StandsFor}}
 use Rattle.ptu_lanes.specs.Sending.{GoesOn, WasSent}
 use Rattle.ptu_config.specs.declared.settings.GmSettings.{GmSettings}
-use Rattle.ptu_outside.specs.Rounds.{in_rounds, left_after, most}
-use Rattle.ptu_outside.specs.Taken.{Gave, HappenedAt, HaveTaken, IsWithin, Round, event_of, general_of}
+use Rattle.ptu_outside.specs.Rounds.{most}
+use Rattle.ptu_outside.specs.Taken.{Gave, HappenedAt, IsWithin, Round}
 use Rattle.ptu_daemon.specs.declared.{daemon.Daemon.{Daemon}, next.Next.{Next}}
 use Rattle.ptu_daemon.specs.declared.next.Next.TheVariants as nexts
 use Rattle.ptu_outside.specs.declared.tally.Tally.{Tally}
-use Rattle.ptu_daemon.specs.Events.{Given, Happening, Takes, happenings_of, round_of, round_with, taking}
-use Rattle.ptu_daemon.specs.Sends.{Standing, event_sends, sends_by, standing_after}
+use Rattle.ptu_daemon.specs.Events.{Happening, Takes, round_with, taking}
+use Rattle.ptu_daemon.specs.Sends.{Standing, after_all, class_by, config_after, event_sends, sends_by, standing_after}
 
 -- ---- one port
 
@@ -56,7 +56,7 @@ standing_as gm opening past = record { config = gm.config; opening = opening; pa
 
 -- the grandmaster did the event, by which so many datagrams were sent, and so many sends failed
 pub record Does {P : Type 0} (ports : Ports P) (old new : KeptGm P) (event : GmEvent) (sent failed : ℕ) : Type 0 where
-  pub config : new.config ≡ old.config
+  pub config : new.config ≡ record (old.config) { class = class_by old.config.class event }
   pub waiting : ports.waiting new.reply ≡ ports.waiting old.reply
   pub does : (opening : ℕ) (past : List Record) → StandsFor opening old past →
       let gm = standing_as old opening past in
@@ -65,16 +65,11 @@ pub record Does {P : Type 0} (ports : Ports P) (old new : KeptGm P) (event : GmE
 
 -- ---- several events
 
--- the grandmaster after the events
-abbrev pub after_all : Standing → List GmEvent → Standing
-after_all gm [] = gm
-after_all gm (event ∷ later) = after_all (standing_after gm event) later
-
 -- this happened, these were received of the two channels, and so many datagrams were sent and so many sends and receives failed,
 -- of which so many are receives
 pub record Ran {P C : Type 0} (ports : Ports P) (clocks : Clocks C) (old new : Daemon P C) (happenings : List Happening) (general event : List Arrival) (sent failed missed : ℕ) : Type 0 where
   pub events : List GmEvent
-  pub config : new.gm.config ≡ old.gm.config
+  pub config : new.gm.config ≡ config_after old.gm.config events
   pub happened : HappenedAt happenings events
   pub takes : Takes (clocks.moments old.clock) (clocks.moments new.clock) happenings events
   pub general_given : Gave (ports.waiting old.gm.reply) (ports.waiting new.gm.reply) general
@@ -174,21 +169,3 @@ pub record DidRound {P C : Type 0} (ports : Ports P) (clocks : Clocks C) (settin
   pub ran : Ran ports clocks old new (round_with settings before round) round.general round.event tally.sent tally.failed missed
   pub general_drains : Drains ports tally.failed new.gm.reply round.general
   pub event_drains : Drains ports tally.failed new.event round.event
-
--- ---- rounds
-
--- what waits at its two ports
-abbrev pub Waits : {P C : Type 0} → Ports P → Daemon P C → List Arrival → List Arrival → Type 0
-Waits ports daemon general event = (ports.waiting daemon.gm.reply ≡ Some general) × (ports.waiting daemon.event ≡ Some event)
-
--- the daemon did so many rounds
-pub record DidRounds {P C : Type 0} (ports : Ports P) (clocks : Clocks C) (settings : GmSettings) (rounds : ℕ) (old new : Daemon P C) (tally : Tally) : Type 0 where
-  pub took : List Round
-  pub taken : HaveTaken took rounds
-  pub missed : ℕ
-  pub once : missed ≤ 2 * rounds
-  pub ran : Ran ports clocks old new (happenings_of settings took) (general_of took) (event_of took) tally.sent tally.failed missed
-  pub all : (given : Given) (general_left event_left : List Arrival) → tally.failed ≡ 0 →
-      Waits ports old given.general given.event → Waits ports new general_left event_left →
-      (happenings_of settings took ≡ in_rounds (round_of settings given) rounds)
-      × (general_left ≡ left_after rounds given.general) × (event_left ≡ left_after rounds given.event)

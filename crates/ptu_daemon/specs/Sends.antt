@@ -50,10 +50,33 @@ event_sends gm i (Capacity t capacity) =
     let x = core_moment gm.past t (events.Resize capacity) in
     by i 4 (cancels_to gm.config (counts gm.past).shed (map lease_of (shed_grants gm.past x capacity)))
 
--- it after the event; none of these events changes its class
+-- the class of its Announces after the event, which was this
+abbrev pub class_by : ℕ → GmEvent → ℕ
+class_by class (Class new) = new
+class_by class _ = class
+
+-- it after the event
 abbrev pub standing_after : Standing → GmEvent → Standing
 standing_after gm event =
-    record gm { past = history_after (opened_with gm.opening gm.config) gm.past (events_of gm.config event) }
+    record {
+      config = record gm.config { class = class_by gm.config.class event };
+      opening = gm.opening;
+      past = history_after (opened_with gm.opening gm.config) gm.past (events_of gm.config event);
+    }
+
+-- the class after these events
+abbrev pub class_after : ℕ → List GmEvent → ℕ
+class_after class [] = class
+class_after class (event ∷ later) = class_after (class_by class event) later
+
+-- its configuration after these events
+abbrev pub config_after : GmConfig → List GmEvent → GmConfig
+config_after config events = record config { class = class_after config.class events }
+
+-- it after the events
+abbrev pub after_all : Standing → List GmEvent → Standing
+after_all gm [] = gm
+after_all gm (event ∷ later) = after_all (standing_after gm event) later
 
 -- the events, one after the other, make it send by the port of this index
 unfoldable pub sends_by : Standing → ℕ → List GmEvent → List Departure

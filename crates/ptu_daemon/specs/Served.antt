@@ -8,12 +8,13 @@ use Rattle.ptu_units.specs.Counts.{counted}
 use Rattle.ptu_lanes.specs.Served.{Numbers}
 use Rattle.ptu_config.specs.declared.settings.GmSettings.{GmSettings}
 use Rattle.ptu_daemon.specs.declared.closing.Closing.{Closing}
-use Rattle.ptu_daemon.specs.{Events.{Given, config_of, served_events}, Sends.{Standing, sends_by}}
+use Rattle.ptu_daemon.specs.{Commands.{rounds_done, served_events}, Events.{Given, config_of}, Sends.{Standing, sends_by}}
 
--- the numbers of the last line: how many sends succeeded, how many sends and receives failed, how many asks were granted and
+-- the numbers of the last line: how many rounds were done, how many sends succeeded, how many sends and receives failed, how many asks were granted and
 -- how many within the profile did not fit, and the rates of the grants that are live at the greatest moment, in sixteenths of
 -- a message per second
 pub record Said : Type 0 where
+  pub rounds : ℕ
   pub sent : ℕ
   pub failed : ℕ
   pub granted : ℕ
@@ -21,9 +22,9 @@ pub record Said : Type 0 where
   pub held : ℕ
 
 -- the last line
-unfoldable pub closing_line : ℕ → Said → List ℕ
-closing_line rounds said =
-    codes "rounds " ++ (decimal rounds ++ (codes " sent " ++ (decimal said.sent ++ (codes " failed " ++ (decimal said.failed
+unfoldable pub closing_line : Said → List ℕ
+closing_line said =
+    codes "rounds " ++ (decimal said.rounds ++ (codes " sent " ++ (decimal said.sent ++ (codes " failed " ++ (decimal said.failed
     ++ (codes " granted " ++ (decimal said.granted ++ (codes " refused " ++ (decimal said.refused ++ (codes " held "
     ++ (decimal said.held ++ codes "\n")))))))))))
 
@@ -51,6 +52,7 @@ served_said settings given =
     let history = served_history settings given in
     let many : ℕ → ℕ = λ i. length (served_by settings given i) in
     record {
+      rounds = rounds_done settings given;
       sent = many 0 + many 1 + many 2 + many 3 + many 4;
       failed = 0;
       granted = counted (counts history).granted;
@@ -65,6 +67,7 @@ numbers_in said = record { sent = said.sent; failed = said.failed; granted = sai
 -- the numbers of a closing line
 abbrev pub said_by : Closing → Said
 said_by closing = record {
+  rounds = closing.rounds;
   sent = closing.sent;
   failed = closing.failed;
   granted = closing.granted;

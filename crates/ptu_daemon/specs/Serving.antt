@@ -1,14 +1,16 @@
 -- What a call that serves has done with the ports and clocks that it opened.
-use Rattle.std.specs.Prelude.{◌≡◌, ◌≤◌, ◌⊎◌, ℕ, ◌+◌, ◌*◌, List, length, map, Option, Some, IsSome, IfSome}
+use Rattle.std.specs.Prelude.{◌≡◌, ◌≤◌, ◌⊎◌, ℕ, ◌+◌, ◌*◌, List, map, Option, Some, None, IsSome, IfSome}
+use Rattle.std.specs.List.{AllByRecursion}
 use Rattle.ptu_outside.specs.declared.{arrival.Arrival.{Arrival}, clock.Clock.{Ghosts as Clocks}}
 use Rattle.ptu_outside.specs.declared.{opened.Opened.{Opened}, port.Port.{Ghosts as Ports}}
 use Rattle.ptu_outside.specs.Telling.{IfTold}
 use Rattle.ptu_grandmaster.specs.declared.driving.GmEvent.{GmEvent}
 use Rattle.ptu_config.specs.{declared.settings.GmSettings.{GmSettings}, Rounds.{all_rounds}}
 use Rattle.ptu_outside.specs.{Handed.{FailuresAre, WereHanded}, Ports.{HaveNotRisen, WereSent, senders_of}}
-use Rattle.ptu_outside.specs.Taken.{Gave, HappenedAt, HaveTaken, Round, event_of, general_of}
+use Rattle.ptu_outside.specs.Taken.{Gave, HaveTaken, event_of, general_of}
 use Rattle.ptu_lanes.specs.{Sending.{GoesOn, WasSent}, Served.{ServesByLanes, faults_of}}
-use Rattle.ptu_daemon.specs.{Events.{Given, Takes, config_of, happenings_of}, Lawful.{IsLawful}}
+use Rattle.ptu_daemon.specs.Commands.{AreAll, AreCounted, DoneRound, HaveHappened, IsSpoken, WasHandedAt, answers_from, done_events, happens_from, many_from, rounds_of, spoken_of, waits_at}
+use Rattle.ptu_daemon.specs.{Events.{Given, Takes, config_of}, Lawful.{IsLawful}}
 use Rattle.ptu_daemon.specs.Served.{Said, numbers_in, opened_as, served_by, served_said}
 use Rattle.ptu_daemon.specs.Sends.{sends_by}
 
@@ -52,42 +54,49 @@ pub record AreServed {P C : Type 0} (ports : Ports P) (settings : GmSettings) (g
 
 -- how many datagrams the events make the grandmaster send, by all of its ports
 abbrev pub many_by : GmSettings → List GmEvent → ℕ
-many_by settings events =
-    let many : ℕ → ℕ = λ i. length (sends_by (opened_as settings) i events) in
-    many 0 + many 1 + many 2 + many 3 + many 4
+many_by settings events = many_from (opened_as settings) events
 
 -- what happened, whatever the counts did, and whether or not ports and clocks tell
-pub record Happened {P C : Type 0} (ports : Ports P) (clocks : Clocks C) (settings : GmSettings) (opened closed : Opened P C) (sent failed : ℕ) : Type 0 where
-  -- each round took at most 64 datagrams of each channel, the first that waited where its port still tells that
-  pub rounds : List Round
-  pub taken : HaveTaken rounds (all_rounds settings)
-  pub general : Gave (ports.waiting opened.p4) (ports.waiting closed.p4) (general_of rounds)
-  pub event : Gave (ports.waiting opened.p5) (ports.waiting closed.p5) (event_of rounds)
+pub record Happened {P C : Type 0} (ports : Ports P) (clocks : Clocks C) (settings : GmSettings) (opened closed : Opened P C) (control control' : Option P)
+    (said : Said) : Type 0 where
+  -- each round took at most 64 datagrams of each channel, and one of the control port: the first that waited where its port still tells that
+  pub done : List DoneRound
+  pub taken : HaveTaken (rounds_of done) said.rounds
+  pub general : Gave (ports.waiting opened.p4) (ports.waiting closed.p4) (general_of (rounds_of done))
+  pub event : Gave (ports.waiting opened.p5) (ports.waiting closed.p5) (event_of (rounds_of done))
+  pub spoken : Gave (waits_at ports control) (waits_at ports control') (spoken_of done)
+  -- they are all rounds, or less where one was told to be the last
+  pub all : AreAll settings (all_rounds settings) done
   -- the events are what happens in such rounds: each at some moment, which is the next of clock 0 where that still tells its moments
-  pub events : List GmEvent
-  pub happened : HappenedAt (happenings_of settings rounds) events
-  pub moments : Takes (clocks.moments opened.c0) (clocks.moments closed.c0) (happenings_of settings rounds) events
+  pub happened : HaveHappened settings 0 done
+  pub moments : Takes (clocks.moments opened.c0) (clocks.moments closed.c0) (happens_from settings 0 done) (done_events done)
   -- their history keeps a grandmaster's promises, and what they make it send is what that history decides and sends
-  pub lawful : IsLawful settings events
+  pub lawful : IsLawful settings (done_events done)
   -- ports 0 to 4 were sent, each in order, a part of what the events make the grandmaster send by it; so many together
-  pub handed : WereHanded ports (λ i. sends_by (opened_as settings) i events) 0 sent (senders_of opened) (senders_of closed)
+  pub handed : WereHanded ports (λ i. sends_by (opened_as settings) i (done_events done)) 0 said.sent (senders_of opened) (senders_of closed)
+  -- and the control port a part of the answers, each by the grandmaster as it stood then, with what was sent and failed so far
+  pub answered : WasHandedAt ports control control' (answers_from settings (opened_as settings) 0 done)
+  pub counted : AreCounted (opened_as settings) 0 0 done
+  pub within : AllByRecursion (λ (d : DoneRound). (d.sent ≤ said.sent) × (d.failed ≤ said.failed)) done
   -- each of the others failed to be sent; each other call that failed is a receive, at most one of each channel and round, since it
   -- ends the channel for the round
   pub missed : ℕ
-  pub once : missed ≤ 2 * all_rounds settings
-  pub each : sent + failed ≡ many_by settings events + missed
+  pub once : missed ≤ 2 * said.rounds
+  pub each : said.sent + said.failed ≡ many_by settings (done_events done) + missed
 
--- between these ports and clocks as they were opened, and as they are to be given back, this was said of the serving
-pub record Serves {P C : Type 0} (ports : Ports P) (clocks : Clocks C) (settings : GmSettings) (opened closed : Opened P C) (said : Said) : Type 0 where
+-- between these ports and clocks as they were opened, and as they are to be given back, and the control port, where there is one, this was
+-- said of the serving; of the control port no fault is counted
+pub record Serves {P C : Type 0} (ports : Ports P) (clocks : Clocks C) (settings : GmSettings) (opened closed : Opened P C) (control control' : Option P)
+    (said : Said) : Type 0 where
   -- what failed is at most what the counts of faults rose by together, and just that where each call that fails counts one
   -- fault; where nothing failed, no count rose
   pub failures : FailuresAre ports.counts_once said.failed (faults_of ports opened) (faults_of ports closed)
   -- what was sent is the number of datagrams that ports 0 to 4 were sent, whatever the counts did
   pub sent : WereSent said.sent (map ports.sent (senders_of opened)) (map ports.sent (senders_of closed))
   -- and they are a part of what the events make the grandmaster send, which are those that came
-  pub happened : Happened ports clocks settings opened closed said.sent said.failed
+  pub happened : Happened ports clocks settings opened closed control control' said
   -- where no count rose, it is what is served
-  pub served : (given : Given) → IsGiven ports clocks opened closed given →
+  pub served : (given : Given) → IsGiven ports clocks opened closed given → IsSpoken ports control control' given →
       HaveNotRisen (faults_of ports opened) (faults_of ports closed) → AreServed ports settings given opened closed said
   -- the other clocks are given back as they were opened
   pub c1 : closed.c1 ≡ opened.c1
@@ -97,15 +106,30 @@ pub record Serves {P C : Type 0} (ports : Ports P) (clocks : Clocks C) (settings
   pub c5 : closed.c5 ≡ opened.c5
 
 -- likewise: lanes served it, or where a lane is refused its thread, it is served on one thread, as where there are no lanes
-abbrev pub ServesEitherWay : {P C : Type 0} → Ports P → Clocks C → GmSettings → Opened P C → Opened P C → Said → Type 0
-ServesEitherWay ports clocks settings opened closed said =
-    ServesByLanes ports clocks settings (config_of settings) opened closed (numbers_in said) ⊎ Serves ports clocks settings opened closed said
+-- which is so too where there is a control port
+abbrev pub ServesEitherWay : {P C : Type 0} → Ports P → Clocks C → GmSettings → Opened P C → Opened P C → Option P → Option P → Said → Type 0
+ServesEitherWay ports clocks settings opened closed control control' said =
+    ((said.rounds ≡ all_rounds settings) × (control ≡ None) × (control' ≡ None)
+    × ServesByLanes ports clocks settings (config_of settings) opened closed (numbers_in said))
+    ⊎ Serves ports clocks settings opened closed control control' said
 
--- likewise, where a host that told that it opens `opening` tells that it was given `back`: on one thread, or by lanes
-pub record HasServed {P C : Type 0} (ports : Ports P) (clocks : Clocks C) (settings : GmSettings) (opening back : Option (Opened P C)) (said : Said) : Type 0 where
+-- the control port is opened where the settings name one, as its host tells it
+pub record IsOpenedFor {P : Type 0} (settings : GmSettings) (opening : Option P) (control : Option P) : Type 0 where
+  pub none : settings.control_port ≡ None → control ≡ None
+  pub some : IsSome settings.control_port → IsSome control
+  pub opens : IfSome control (λ port. IfSome opening (λ told. port ≡ told))
+
+-- likewise, where a host that told that it opens `opening`, and `speaking` as its control port, tells that it was given `back` and
+-- `spoken`: on one thread, or by lanes
+pub record HasServed {P C : Type 0} (ports : Ports P) (clocks : Clocks C) (settings : GmSettings) (opening back : Option (Opened P C))
+    (speaking spoken : Option P) (said : Said) : Type 0 where
   pub opened : Opened P C
   pub closed : Opened P C
   pub opens : IfSome opening (λ told. opened ≡ told)
   pub gives_back : IfTold back (Some closed)
-  pub serves : settings.senders ≡ 0 → Serves ports clocks settings opened closed said
-  pub by_lanes : 1 ≤ settings.senders → ServesEitherWay ports clocks settings opened closed said
+  pub control : Option P
+  pub control' : Option P
+  pub speaks : IsOpenedFor settings speaking control
+  pub speaks_back : IfSome control' (λ port. IfTold spoken (Some port))
+  pub serves : settings.senders ≡ 0 → Serves ports clocks settings opened closed control control' said
+  pub by_lanes : 1 ≤ settings.senders → ServesEitherWay ports clocks settings opened closed control control' said

@@ -8,8 +8,8 @@ use Rattle.ptu_lanes.specs.Served.{ExchangedAll, TablesSentLawfully, faults_of, 
 use Rattle.ptu_config.specs.declared.settings.GmSettings.{GmSettings}
 use Rattle.ptu_outside.specs.Ports.{HaveNotRisen}
 use Rattle.ptu_daemon.specs.{declared.two_host.Flags.{Flags}, Hosts.{clear, flagged_by, over, two_steps}}
-use Rattle.ptu_daemon.specs.{Pairs.{pairs}, Telling.{told_by}}
-use Rattle.ptu_daemon.specs.{Events.{Given, config_of}, Served.{Said, served_by}, Serving.{HasServed, IsGiven}}
+use Rattle.ptu_daemon.specs.{Pairs.{pairs}, Telling.{InTwoSteps, told_by}}
+use Rattle.ptu_daemon.specs.{Commands.{IsSpoken}, Events.{Given, config_of}, Served.{Said, served_by}, Serving.{HasServed, IsGiven}}
 
 -- the port below tells a list that is whole: each Sync in two steps of it is followed by its Follow_Up
 abbrev pub TellsWhole : {P : Type 0} → Ports P → P → Type 0
@@ -30,9 +30,9 @@ pub record AreSentInPairs {P C : Type 0} (ports : Ports P) (settings : GmSetting
   pub p4 : IsSentInPairs ports before.p4 after.p4 (served_by settings given 4)
 
 -- on one thread, where no count rose, each port below was sent the pairs of what is served
-abbrev pub ServesInPairs : {P C : Type 0} → Ports P → Clocks C → GmSettings → Opened P C → Opened P C → Type 0
-ServesInPairs ports clocks settings before after =
-    (given : Given) → IsGiven ports clocks before after given → HaveNotRisen (faults_of ports before) (faults_of ports after) →
+abbrev pub ServesInPairs : {P C : Type 0} → Ports P → Clocks C → GmSettings → Opened P C → Opened P C → Option (InTwoSteps P) → Option (InTwoSteps P) → Type 0
+ServesInPairs ports clocks settings before after control control' =
+    (given : Given) → IsGiven ports clocks before after given → IsSpoken (two_steps ports) control control' given → HaveNotRisen (faults_of ports before) (faults_of ports after) →
     AreSentInPairs ports settings given before after
 
 -- a port below was sent so many of these, which are no halves and so are sent as they are: all, where its count did not rise, it told a
@@ -69,15 +69,19 @@ pub record SendsBelow {P C : Type 0} (ports : Ports P) (settings : GmSettings) (
   pub p2 : ArePairsBelow ports before.p2 after.p2 flags.p2 lawful.p2.messages lawful.p2.sent
   pub p3 : ArePairsBelow ports before.p3 after.p3 flags.p3 lawful.p3.messages lawful.p3.sent
 
--- where a host that told that it opens `opening` tells that it was given `back`: over ports in two steps of these it was served so
-pub record HasServedInTwo {P C : Type 0} (ports : Ports P) (clocks : Clocks C) (settings : GmSettings) (opening back : Option (Opened P C)) (said : Said) : Type 0 where
+-- where a host that told that it opens `opening`, and `speaking` as its control port, tells that it was given `back` and `spoken`: over ports
+-- in two steps of these it was served so
+pub record HasServedInTwo {P C : Type 0} (ports : Ports P) (clocks : Clocks C) (settings : GmSettings) (opening back : Option (Opened P C))
+    (speaking spoken : Option P) (said : Said) : Type 0 where
   -- the flags of the ports in two steps as they were given back: those of the opening are clear
   pub flags : Flags
-  pub served : HasServed (two_steps ports) clocks settings (option_map (flagged_by clear) opening) (option_map (flagged_by flags) back) said
+  pub control_flag : Bool
+  pub served : HasServed (two_steps ports) clocks settings (option_map (flagged_by clear) opening) (option_map (flagged_by flags) back)
+      (option_map (over false) speaking) (option_map (over control_flag) spoken) said
   -- on one thread, where no count rose
   pub in_pairs : settings.senders ≡ 0 → (before after : Opened P C) → opening ≡ Some before → back ≡ Some after →
-      ServesInPairs ports clocks settings before after
+      ServesInPairs ports clocks settings before after served.control served.control'
   -- by lanes, or on one thread where a lane is refused its thread
   pub by_lanes : 1 ≤ settings.senders → (before after : Opened P C) → opening ≡ Some before → back ≡ Some after →
       (AnswersBelow ports clocks settings before after flags said × SendsBelow ports settings before after flags)
-      ⊎ ServesInPairs ports clocks settings before after
+      ⊎ ServesInPairs ports clocks settings before after served.control served.control'

@@ -25,7 +25,7 @@ pub(crate) struct Closing {
 }
 
 impl fmt::Display for Closing {
-    ghost output = { λ c. Some (closing_line c.rounds (said_by c)) };
+    ghost output = { λ c. Some (closing_line (said_by c)) };
 
     #[tactic(auto, unfolding(crate::specs::Served::closing_line))]
     fn fmt<W: fmt::Write>(&self, f: &mut fmt::Formatter<W>) -> fmt::Result {
@@ -40,7 +40,7 @@ impl fmt::Display for Closing {
 /// The closing line of the daemon, as text.
 pub(crate) fn closing_text(alloc: Global, closing: &Closing) -> Result<String, OutOfMemory>
     ensures { IfOk result (λ text.
-        string_bytes text ≡ closing_line closing.now.rounds (said_by closing.now)) }
+        string_bytes text ≡ closing_line (said_by closing.now)) }
 {
     Ok(format!(in alloc; "{closing}")?)
 }

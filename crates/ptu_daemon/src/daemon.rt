@@ -1,19 +1,22 @@
 //! A grandmaster with the port of its event channel and its clock, and the rounds that it does.
 
-ghost use Rattle.std.specs.Prelude.{◌≡◌, ◌<◌, ◌+◌, ◌^◌, ◌∷◌, [], true, IfOk};
+ghost use Rattle.std.specs.Prelude.{◌≡◌, ◌<◌, ◌+◌, ◌*◌, ◌^◌, ◌∷◌, [], true, IfOk};
 ghost use Rattle.ptu_grandmaster.specs.declared.driving.GmEvent.{GmEvent};
-ghost use Rattle.ptu_config.specs.{Limits.{IsGmInRange}, Rounds.{all_rounds}};
+ghost use Rattle.ptu_config.specs.Limits.{IsGmInRange};
 ghost use Rattle.ptu_daemon.specs.Events.{change_in, change_to, taking, turns};
-ghost use Rattle.ptu_daemon.specs.Ran.{CameTo, DidRound, DidRounds, IsSmall, Ran, Received, Receives, TookChannel, arrived};
+ghost use Rattle.ptu_daemon.specs.Obeying.{DidAll, DidWhole};
+ghost use Rattle.ptu_daemon.specs.Ran.{CameTo, DidRound, IsSmall, Ran, Received, Receives, TookChannel, arrived};
 
 use crate::events;
 use crate::next::Next;
-use crate::tally::plus_round;
+use crate::obeying::Obeyed;
+use ptu_admit::InForce;
 use ptu_config::GmSettings;
 use ptu_grandmaster::{Gm, SIGNALING_PORT};
 use ptu_outside::{Channel, Clock, Failed, Port, Tally};
 use ptu_units::sizes::LONGEST_DATAGRAM;
 use ptu_units::{Capacity, Moment, OutOfMemory};
+use std::alloc::Global;
 
 /// How many datagrams of a channel a round takes at most.
 const MOST: u32 = 64;
@@ -40,8 +43,8 @@ fn change_before(settings: &GmSettings, before: u64) -> Option<Capacity>
     }
 }
 
-// Receives the next datagram of a port.
-fn receive_from<P: Port>(
+/// Receives the next datagram of a port.
+pub(crate) fn receive_from<P: Port>(
     port: &mut P,
     buf: &mut [u8; LONGEST_DATAGRAM],
 ) -> Result<Option<(u32, usize)>, Failed>
@@ -82,18 +85,18 @@ impl<P: Port, C: Clock> Daemon<P, C> {
         self.event.wait(due);
     }
 
-    // All tables take a turn, and the daemon waits.
-    fn turn_and_wait(&mut self) -> Tally
-        ensures ran { Ran P.Port C.Clock self.old self.new turns [] [] result.sent result.failed 0 }
-        ensures small { IsSmall 4 result }
+    // Waits, unless no other round is to follow.
+    fn wait_unless(&mut self, stops: bool)
+        ensures { Ran P.Port C.Clock self.old self.new [] [] [] 0 0 0 }
     {
-        let turned = self.turn_tables();
+        if stops {
+            return;
+        }
         self.wait();
-        turned
     }
 
-    // Changes the capacity at a new moment.
-    fn change(&mut self, capacity: Capacity) -> Result<Tally, OutOfMemory>
+    /// Changes the capacity at a new moment.
+    pub(crate) fn change(&mut self, capacity: InForce) -> Result<Tally, OutOfMemory>
         ensures ran { IfOk result (λ tally. Ran P.Port C.Clock self.old self.new
             ((λ t. GmEvent.Capacity t capacity) ∷ []) [] [] tally.sent tally.failed 0) }
         ensures small { IfOk result (λ tally. IsSmall 1 tally) }
@@ -111,7 +114,7 @@ impl<P: Port, C: Clock> Daemon<P, C> {
         ensures small { IfOk result (λ tally. IsSmall 1 tally) }
     {
         match change_before(settings, before) {
-            Some(capacity) => self.change(capacity),
+            Some(capacity) => self.change(InForce::of(capacity)),
             None => Ok(Tally::default()),
         }
     }
@@ -174,7 +177,7 @@ impl<P: Port, C: Clock> Daemon<P, C> {
         Ok(tally)
     }
 
-    // Does a round, before which there were so many.
+    // Does a round, before which there were so many, but for what comes of the control port.
     fn round(&mut self, settings: &GmSettings, before: u64) -> Result<Tally, OutOfMemory>
         requires before { before + 1 < 2 ^ 64 }
         ensures did { IfOk result (λ tally.
@@ -184,20 +187,60 @@ impl<P: Port, C: Clock> Daemon<P, C> {
         let begun = self.begin(settings, before)?;
         let general = self.take_channel(Channel::General)?;
         let event = self.take_channel(Channel::Event)?;
-        let turned = self.turn_and_wait();
+        let turned = self.turn_tables();
         Ok(begun.plus(general).plus(event).plus(turned))
     }
 
-    /// Does all rounds of the settings, and counts what was sent and what failed.
-    pub(crate) fn rounds(&mut self, settings: &GmSettings) -> Result<Tally, OutOfMemory>
+    // Does a whole round, before which there were so many and so much was counted, and waits where
+    // another one is to follow.
+    fn round_obeying(
+        &mut self,
+        alloc: Global,
+        settings: &GmSettings,
+        key: u64,
+        control: &mut Option<P>,
+        before: u64,
+        tally: &Tally,
+    ) -> Result<Obeyed, OutOfMemory>
         requires range { IsGmInRange settings.now }
-        ensures did { IfOk result (λ tally. DidRounds P.Port C.Clock settings.now
-            (all_rounds settings.now) self.old self.new tally) }
+        requires before { before < 2 ^ 48 }
+        requires small { IsSmall (before * 257) tally.now }
+        ensures did { IfOk result (DidWhole P.Port C.Clock settings.now key before tally.now
+            self.old self.new control.old control.new) }
+        ensures small { IfOk result (λ obeyed. IsSmall ((before + 1) * 257) obeyed.tally) }
     {
+        let round = self.round(settings, before)?;
+        let so_far = tally.plus(round);
+        let obeyed = self.obey(alloc, key, control, before, &so_far)?;
+        self.wait_unless(obeyed.stops);
+        Ok(Obeyed {
+            tally: so_far.plus(obeyed.tally),
+            stops: obeyed.stops,
+        })
+    }
+
+    /// Does the rounds of the settings, or less where a command stops it, and counts them, and what
+    /// was sent and what failed.
+    pub(crate) fn rounds(
+        &mut self,
+        alloc: Global,
+        settings: &GmSettings,
+        control: &mut Option<P>,
+    ) -> Result<(u64, Tally), OutOfMemory>
+        requires range { IsGmInRange settings.now }
+        ensures { IfOk result (λ r. DidAll P.Port C.Clock settings.now r.0
+            self.old self.new control.old control.new r.1) }
+    {
+        let key = settings.control_key.unwrap_or(0);
+        let all = settings.all_rounds();
         let mut tally = Tally::default();
-        for before in 0..settings.all_rounds() {
-            tally = plus_round(tally, self.round(settings, before)?, before);
+        for before in 0..all {
+            let done = self.round_obeying(alloc, settings, key, control, before, &tally)?;
+            tally = done.tally;
+            if done.stops {
+                return Ok((before + 1, tally));
+            }
         }
-        Ok(tally)
+        Ok((all, tally))
     }
 }

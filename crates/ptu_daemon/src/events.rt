@@ -4,10 +4,11 @@ ghost use Rattle.std.specs.Prelude.{◌≡◌, ◌<◌, IfOk};
 ghost use Rattle.ptu_grandmaster.specs.declared.driving.GmEvent.{GmEvent};
 ghost use Rattle.ptu_daemon.specs.{Counting.{failed_for, sent_for}, Ran.{Does, IsSmall}};
 
+use ptu_admit::InForce;
 use ptu_grandmaster::{Gm, Reply, Taken};
 use ptu_outside::{Port, Tally};
 use ptu_shard::Answered;
-use ptu_units::{Capacity, Moment, OutOfMemory};
+use ptu_units::{Moment, OutOfMemory};
 
 /// The table of this index, from 0 to 3, takes a turn.
 pub(crate) fn turn<P: Port>(gm: &mut Gm<P>, at: Moment, table: usize) -> Tally
@@ -26,13 +27,13 @@ pub(crate) fn turn<P: Port>(gm: &mut Gm<P>, at: Moment, table: usize) -> Tally
 pub(crate) fn change<P: Port>(
     gm: &mut Gm<P>,
     at: Moment,
-    capacity: Capacity,
+    capacity: InForce,
 ) -> Result<Tally, OutOfMemory>
     ensures does { IfOk result (λ tally.
         Does P.Port gm.old gm.new (GmEvent.Capacity at capacity) tally.sent tally.failed) }
     ensures small { IfOk result (λ tally. IsSmall 1 tally) }
 {
-    let changed = gm.set_capacity(at, capacity)?;
+    let changed = gm.put_in_force(at, capacity)?;
     Ok(Tally {
         sent: changed.sent.into(),
         failed: changed.failed.into(),

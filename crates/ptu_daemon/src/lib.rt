@@ -4,13 +4,14 @@
 #![tactic(auto)]
 
 mod closing;
+mod control;
 mod daemon;
 mod events;
 mod laws;
 mod next;
+mod obeying;
 mod serving;
 mod step;
-mod tally;
 mod two_host;
 mod two_step;
 mod two_steps;

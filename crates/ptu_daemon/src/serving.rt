@@ -1,7 +1,8 @@
 //! The daemon of a grandmaster.
 
-ghost use Rattle.std.specs.Prelude.{◌≡◌, ◌≤◌, ◌∷◌, [], IfOk, IfErr, OnOk, OnErr};
+ghost use Rattle.std.specs.Prelude.{◌≡◌, ◌≤◌, ◌∷◌, [], None, Some, IsSome, IfSome, IfNone, IfOk, IfErr, OnOk, OnErr};
 ghost use Rattle.ptu_outside.specs.{Faults.{HasRisen}, Handing.{HasPut, HasPutFront}};
+ghost use Rattle.ptu_outside.specs.Telling.{IfTold};
 ghost use Rattle.ptu_config.specs.{Limits.{IsGmInRange}, Rounds.{all_rounds}};
 ghost use Rattle.ptu_lanes.specs.Served.{numbers_of};
 ghost use Rattle.ptu_daemon.specs.{Answers.{HasAnswered}, Events.{config_of}};
@@ -13,9 +14,9 @@ use ptu_config::GmSettings;
 use ptu_grandmaster::Gm;
 use ptu_lanes::{Ended, Totals, serve_lanes_within};
 use ptu_messages::PortIdentity;
-use ptu_outside::{Clock, DaemonFault, Host, Opened, Port, Sink, write_whole};
+use ptu_outside::{Clock, DaemonFault, Failed, Host, Opened, Port, Sink, write_whole};
 use ptu_profile::GmConfig;
-use ptu_units::OutOfMemory;
+use ptu_units::{OutOfMemory, UdpPortNumber};
 use std::alloc::Global;
 use std::sync::Wait;
 use std::thread::Threads;
@@ -63,28 +64,27 @@ fn serve_by_lanes<P: Port + Send, C: Clock + Send, W: Threads + Wait + Sync>(
 ) -> Result<(Opened<P, C>, Closing), OutOfMemory>
     requires range { IsGmInRange settings.now }
     requires senders { 1 ≤ settings.now.senders }
-    ensures rounds { IfOk result (λ r. r.1.rounds ≡ all_rounds settings.now) }
     ensures serves { IfOk result (λ r.
-        ServesEitherWay P.Port C.Clock settings.now opened r.0 (said_by r.1)) }
+        ServesEitherWay P.Port C.Clock settings.now opened r.0 None None (said_by r.1)) }
 {
     let config = config(settings);
     match serve_lanes_within(rt, alloc, threads, settings, &config, opened)? {
         Ended::Served(back, totals) => Ok((back, closing_of(settings, &totals))),
-        Ended::Refused(opened) => serve_rounds(alloc, settings, opened),
+        Ended::Refused(opened) => serve_alone(alloc, settings, opened),
     }
 }
 
-// Serves over these ports and clocks on one thread. Gives them back, with the numbers of the last
-// line.
+// Serves over these ports and clocks on one thread, and by the control port, where there is one.
+// Gives them back, with the numbers of the last line.
 fn serve_rounds<P: Port, C: Clock>(
     alloc: Global,
     settings: &GmSettings,
     opened: Opened<P, C>,
-) -> Result<(Opened<P, C>, Closing), OutOfMemory>
+    control: Option<P>,
+) -> Result<(Opened<P, C>, Option<P>, Closing), OutOfMemory>
     requires { IsGmInRange settings.now }
-    ensures rounds { IfOk result (λ r. r.1.rounds ≡ all_rounds settings.now) }
-    ensures serves { IfOk result (λ r.
-        Serves P.Port C.Clock settings.now opened r.0 (said_by r.1)) }
+    ensures { IfOk result (λ r.
+        Serves P.Port C.Clock settings.now opened r.0 control r.1 (said_by r.2)) }
 {
     let gm = Gm::new(
         alloc,
@@ -101,12 +101,13 @@ fn serve_rounds<P: Port, C: Clock>(
         event: opened.p5,
         clock: opened.c0,
     };
-    let tally = daemon.rounds(settings)?;
+    let mut control = control;
+    let counted = daemon.rounds(alloc, settings, &mut control)?;
     let (closed, reply) = daemon.gm.close();
     let closing = Closing {
-        rounds: settings.all_rounds(),
-        sent: tally.sent,
-        failed: tally.failed,
+        rounds: counted.0,
+        sent: counted.1.sent,
+        failed: counted.1.failed,
         granted: closed.granted,
         refused: closed.refused,
         held: closed.total,
@@ -121,29 +122,81 @@ fn serve_rounds<P: Port, C: Clock>(
         c0: daemon.clock,
         ..opened
     };
+    Ok((back, control, closing))
+}
+
+// Serves over these ports and clocks on one thread, without a control port. Gives them back, with
+// the numbers of the last line.
+fn serve_alone<P: Port, C: Clock>(
+    alloc: Global,
+    settings: &GmSettings,
+    opened: Opened<P, C>,
+) -> Result<(Opened<P, C>, Closing), OutOfMemory>
+    requires { IsGmInRange settings.now }
+    ensures { IfOk result (λ r.
+        Serves P.Port C.Clock settings.now opened r.0 None None (said_by r.1)) }
+{
+    let (back, _control, closing) = serve_rounds(alloc, settings, opened, None)?;
     Ok((back, closing))
 }
 
-// Serves over these ports and clocks, on one thread or by lanes, with at most so many threads
-// beside this one. Gives them back, with the numbers of the last line.
+// Serves over these ports and clocks, and by the control port, where there is one: on one thread or
+// by lanes, with at most so many threads beside this one. Gives them back, with the numbers of the
+// last line. Lanes obey no commands: where there is a control port, one thread does all.
 fn serve_over<P: Port + Send, C: Clock + Send, W: Threads + Wait + Sync>(
     rt: &W,
     alloc: Global,
     threads: usize,
     settings: &GmSettings,
     opened: Opened<P, C>,
-) -> Result<(Opened<P, C>, Closing), OutOfMemory>
+    control: Option<P>,
+) -> Result<(Opened<P, C>, Option<P>, Closing), OutOfMemory>
     requires { IsGmInRange settings.now }
-    ensures rounds { IfOk result (λ r. r.1.rounds ≡ all_rounds settings.now) }
     ensures serves { IfOk result (λ r. settings.now.senders ≡ 0
-        → Serves P.Port C.Clock settings.now opened r.0 (said_by r.1)) }
+        → Serves P.Port C.Clock settings.now opened r.0 control r.1 (said_by r.2)) }
     ensures by_lanes { IfOk result (λ r. 1 ≤ settings.now.senders
-        → ServesEitherWay P.Port C.Clock settings.now opened r.0 (said_by r.1)) }
+        → ServesEitherWay P.Port C.Clock settings.now opened r.0 control r.1 (said_by r.2)) }
 {
-    if settings.senders.get() == 0 {
-        serve_rounds(alloc, settings, opened)
-    } else {
-        serve_by_lanes(rt, alloc, threads, settings, opened)
+    if settings.senders.get() == 0 || control.is_some() {
+        return serve_rounds(alloc, settings, opened, control);
+    }
+    let (back, closing) = serve_by_lanes(rt, alloc, threads, settings, opened)?;
+    Ok((back, None, closing))
+}
+
+// Opens the control port of this number, where there is one.
+fn open_control<H: Host>(
+    host: &mut H,
+    number: Option<UdpPortNumber>,
+) -> Result<Option<H::P>, Failed>
+    ensures some { IfOk result (λ control. IfSome number (λ _. IsSome control)) }
+    ensures none { IfOk result (λ control. IfNone number (control ≡ None)) }
+    ensures opened { IfOk result (λ control. IfSome control (λ port.
+        IfSome (H.control host.old) (λ told. port ≡ told))) }
+    ensures at { OnOk result (IfSome number (λ n. IfTold (H.control_at host.new) (Some n))) }
+    ensures back { H.back host.new ≡ H.back host.old }
+    ensures opened_at { H.opened_at host.new ≡ H.opened_at host.old }
+    ensures risen { OnErr result (HasRisen (H.faults host.old) (H.faults host.new)) }
+    ensures quiet { OnOk result (H.faults host.new ≡ H.faults host.old) }
+    ensures name { H.name host.new ≡ H.name host.old }
+{
+    match number {
+        Some(number) => Ok(Some(host.open_control(number.get())?)),
+        None => Ok(None),
+    }
+}
+
+// Gives the control port back, where there is one.
+fn close_control<H: Host>(host: &mut H, control: Option<H::P>)
+    ensures back { IfSome control (λ port. IfTold (H.control_back host.new) (Some port)) }
+    ensures control_at { H.control_at host.new ≡ H.control_at host.old }
+    ensures opened_back { H.back host.new ≡ H.back host.old }
+    ensures at { H.opened_at host.new ≡ H.opened_at host.old }
+    ensures quiet { H.faults host.new ≡ H.faults host.old }
+    ensures name { H.name host.new ≡ H.name host.old }
+{
+    if let Some(port) = control {
+        host.close_control(port);
     }
 }
 
@@ -177,8 +230,9 @@ pub fn serve_within<W: Threads + Wait + Sync, H: Host, K: Sink>(
     requires range { IsGmInRange settings.now }
     // What was served and written; the host was opened at the settings' address and ports.
     ensures answer { HasAnswered K.Sink sink.old sink.new (H.faults host.old) (H.faults host.new)
-        (H.opened_at host.new) settings.now (λ said. HasServed H.P.Port H.C.Clock settings.now
-        (H.opening host.old) (H.back host.new) said) result }
+        (H.opened_at host.new) (H.control_at host.new) settings.now
+        (λ said. HasServed H.P.Port H.C.Clock settings.now (H.opening host.old) (H.back host.new)
+        (H.control host.old) (H.control_back host.new) said) result }
     // It stands on what it stood on.
     ensures name { H.name host.new ≡ H.name host.old }
 {
@@ -186,9 +240,14 @@ pub fn serve_within<W: Threads + Wait + Sync, H: Host, K: Sink>(
     let Ok(opened) = host.open(settings.ip, event, general) else {
         return Err(DaemonFault::Open);
     };
-    let (back, closing) = serve_over(rt, alloc, threads, settings, opened)?;
+    let Ok(control) = open_control(host, settings.control_port) else {
+        host.close(opened);
+        return Err(DaemonFault::Open);
+    };
+    let (back, control, closing) = serve_over(rt, alloc, threads, settings, opened, control)?;
     let text = closing_text(alloc, &closing)?;
     host.close(back);
+    close_control(host, control);
     put(sink, text.as_str())
 }
 
@@ -202,6 +261,13 @@ pub fn serve_within<W: Threads + Wait + Sync, H: Host, K: Sink>(
 /// daemon goes on. The ports and clocks are given back to the host before the line is written.
 ///
 /// A round ends with a wait of port 5, until a datagram is there or a message may be due.
+///
+/// Where the settings name a control port, the host opens it, too, and a round takes one datagram
+/// of it, behind the turns. What begins with the key and is a command is obeyed, at a new moment of
+/// clock 0 where it changes something, and answered by the control port. A line with the key that
+/// is no command is answered by its cause, and all else by nothing. A `stop` makes its round the
+/// last. What fails at the control port is not counted. Lanes obey no commands: with a control port
+/// all is served on this thread.
 ///
 /// So it is on this thread where `senders` is 0. Else the channels and the tables are served side
 /// by side in each round, by lanes of which `senders` turn the tables, and each lane takes moments
@@ -221,8 +287,9 @@ pub fn serve<W: Threads + Wait + Sync, H: Host, K: Sink>(
     requires range { IsGmInRange settings.now }
     // What was served and written; the host was opened at the settings' address and ports.
     ensures answer { HasAnswered K.Sink sink.old sink.new (H.faults host.old) (H.faults host.new)
-        (H.opened_at host.new) settings.now (λ said. HasServed H.P.Port H.C.Clock settings.now
-        (H.opening host.old) (H.back host.new) said) result }
+        (H.opened_at host.new) (H.control_at host.new) settings.now
+        (λ said. HasServed H.P.Port H.C.Clock settings.now (H.opening host.old) (H.back host.new)
+        (H.control host.old) (H.control_back host.new) said) result }
     // It stands on what it stood on.
     ensures name { H.name host.new ≡ H.name host.old }
 {

@@ -9,3 +9,4 @@ pub mod Closes
 pub mod Cancelling
 pub mod Cancels
 pub mod Followed
+pub mod LiveCounts

@@ -5,3 +5,4 @@ pub mod Taking
 pub mod Changed
 pub mod Driven
 pub mod Lends
+pub mod Status

@@ -9,6 +9,7 @@ mod gm;
 mod outcome;
 mod replying;
 mod resizing;
+mod status;
 mod taking;
 mod turning;
 
@@ -19,3 +20,4 @@ pub use ptu_gm_messages::{GmReason, Item, Items, asks_of, cancel_of};
 pub use ptu_outside::Reply;
 pub use replying::reply_of;
 pub use resizing::{Changed, send_cancels};
+pub use status::GmStatus;

@@ -1,15 +1,12 @@
 //! Changes of capacity.
 
-ghost use Rattle.std.specs.Prelude.{◌≡◌, ◌<◌, ◌+◌, ◌%◌, ℕ, List, [], ◌∷◌, ◌++◌, length, IfOk, OnErr};
+ghost use Rattle.std.specs.Prelude.{◌≡◌, ◌<◌, ◌+◌, ◌%◌, [], ◌∷◌, length, IfOk, OnErr};
 ghost use Rattle.ptu_outside.specs.HandsOver.{HandsOver, failed_in, sent_in};
-ghost use Rattle.ptu_history.specs.{Core.{core_step}, History.{Record}};
-ghost use Rattle.ptu_history.specs.Events as events;
-ghost use Rattle.ptu_admit.specs.Lent.{moment_for_all};
-ghost use Rattle.ptu_gm_messages.specs.{Deciding.{opened_with}, Replies.{cancel_to, cancels_to}};
-ghost use Rattle.ptu_grandmaster.specs.{Changed.{AreShedAt, leases_shed}, Gm.{StandsFor, tables}};
+ghost use Rattle.ptu_gm_messages.specs.Replies.{cancel_to, cancels_to};
+ghost use Rattle.ptu_grandmaster.specs.Changed.{HasChanged, leases_shed};
 
 use crate::gm::Gm;
-use ptu_admit::{Shed, ShedList, resize};
+use ptu_admit::{InForce, Shed, ShedList, resize};
 use ptu_gm_messages::cancel_of;
 use ptu_outside::{Channel, Failed, Port, Sends, hand};
 use ptu_profile::GmConfig;
@@ -77,29 +74,10 @@ impl<P: Port> Gm<P> {
     /// # Errors
     /// `OutOfMemory`, only where what is reserved is above the new capacity. Nothing has changed
     /// then, and nothing was sent.
-    pub fn set_capacity(&mut self, t: Moment, capacity: Capacity) -> Result<Changed, OutOfMemory>
+    pub fn put_in_force(&mut self, t: Moment, capacity: InForce) -> Result<Changed, OutOfMemory>
         ensures unchanged { OnErr result (self.new ≡ self.old) }
         ensures memory { OnErr result (capacity < self.old.book.total) }
-        ensures at { IfOk result (λ c. c.at
-            ≡ moment_for_all t self.old.book (tables self.old)) }
-        // The CANCELs of the grants that are shed are handed to the reply port, in order.
-        ensures sends { IfOk result (λ c. HandsOver P.Port self.old.reply self.new.reply
-            (cancels_to self.old.config self.old.sequence (leases_shed c.shed)) c.sent c.failed) }
-        ensures count { IfOk result (λ c. c.sent + c.failed ≡ length c.shed) }
-        ensures ports { (self.new.s0.port ≡ self.old.s0.port)
-            × (self.new.s1.port ≡ self.old.s1.port)
-            × (self.new.s2.port ≡ self.old.s2.port) × (self.new.s3.port ≡ self.old.s3.port) }
-        ensures config { self.new.config ≡ self.old.config }
-        // They are those of the core's change after each history that the grandmaster stands for,
-        // which goes on with it.
-        ensures shed { (opening : ℕ) (history : List Record) →
-            StandsFor opening self.old history →
-            IfOk result (λ c. AreShedAt history t capacity c.at c.shed) }
-        ensures stands { (opening : ℕ) (history : List Record) →
-            StandsFor opening self.old history → IfOk result (λ c.
-            StandsFor opening self.new (history
-            ++ (core_step (opened_with opening self.old.config) history t
-            (events.Resize capacity)).records)) }
+        ensures changed { IfOk result (HasChanged P.Port t capacity self.old self.new) }
     {
         let resized = resize(
             self.alloc,
@@ -120,5 +98,17 @@ impl<P: Port> Gm<P> {
             sent: sends.sent,
             failed: sends.failed,
         })
+    }
+
+    /// Changes the capacity in force to this one of the settings, as `put_in_force` does.
+    ///
+    /// # Errors
+    /// As `put_in_force`.
+    pub fn set_capacity(&mut self, t: Moment, capacity: Capacity) -> Result<Changed, OutOfMemory>
+        ensures unchanged { OnErr result (self.new ≡ self.old) }
+        ensures memory { OnErr result (capacity < self.old.book.total) }
+        ensures changed { IfOk result (HasChanged P.Port t capacity self.old self.new) }
+    {
+        self.put_in_force(t, InForce::of(capacity))
     }
 }

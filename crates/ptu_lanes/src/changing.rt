@@ -11,6 +11,7 @@ ghost use Rattle.ptu_lanes.specs.{Changing.{change_of, peak_capacity, last_capac
 
 use crate::lanes::{ControlLane, Rounds};
 use crate::service::Service;
+use ptu_admit::InForce;
 use ptu_config::GmSettings;
 use ptu_grandmaster::send_cancels;
 use ptu_outside::{Clock, Port};
@@ -60,7 +61,7 @@ pub(crate) fn rounds_before_change(settings: &GmSettings) -> Option<u64>
 /// `OutOfMemory`, and then nothing has changed.
 pub(crate) fn change_capacity<P: Port + Send, C: Clock, L: Rates, G: Ledger, R: Ledger, W: Wait>(
     service: &Service<'_, P, L, G, R, W>,
-    capacity: Capacity,
+    capacity: InForce,
     lane: &mut ControlLane<P, C, G, R>,
 ) -> Result<(), OutOfMemory>
     requires ledger { L.parts ≡ 4 }
@@ -109,7 +110,7 @@ impl<P: Port + Send, L: Rates, G: Ledger, R: Ledger, W: Wait> Service<'_, P, L, 
         let early = u64::from(settings.change_round) - 1;
         let late = settings.all_rounds() - early;
         let mut lane = self.take_part_signaling(rounds, early, lane)?;
-        let changed = change_capacity(self, capacity, &mut lane);
+        let changed = change_capacity(self, InForce::of(capacity), &mut lane);
         rounds.met(self.base.rt, changed)?;
         self.take_part_signaling(rounds, late, lane)
     }

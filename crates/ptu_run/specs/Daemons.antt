@@ -1,11 +1,11 @@
 -- What a run of a daemon comes to: it reads its settings, opens its ports, and writes its output.
-use Rattle.std.specs.Prelude.{◌≡◌, ◌⊎◌, ℕ, true, false, List, [], ◌∷◌, Option, Some, None, Result, Ok, Err}
+use Rattle.std.specs.Prelude.{◌≡◌, ◌⊎◌, ℕ, true, false, List, [], ◌∷◌, Option, Some, None, IfSome, Result, Ok, Err}
 use Rattle.ptu_outside.specs.declared.{clock.Clock.{Ghosts as Clocks}, endpoint.Endpoint.{Endpoint}}
 use Rattle.ptu_outside.specs.declared.{opened.Opened.{Opened}, port.Port.{Ghosts as Ports}}
 use Rattle.ptu_outside.specs.{Handing.{HasPut, HasPutFront, HasPutPart}, Telling.{IfTold}}
 use Rattle.ptu_config.specs.declared.{key.Key.{Key}, settings.GmSettings.{GmSettings}}
 use Rattle.ptu_config.specs.declared.settings.SlaveSettings.{SlaveSettings}
-use Rattle.ptu_config.specs.{Entries.{gm_entries, slave_entries}, Rounds.{all_rounds, all_slave_rounds}, Rules.{Value}}
+use Rattle.ptu_config.specs.{Entries.{gm_entries, slave_entries}, Rounds.{all_slave_rounds}, Rules.{Value}}
 use Rattle.ptu_config.specs.declared.setup_fault.SetupFault.TheVariants.{Refused}
 use Rattle.ptu_config.specs.declared.refusal.RefusalLine.{RefusalLine}
 use Rattle.ptu_config.specs.Reading.{Answers, HasSetUp, HasTakenSome}
@@ -74,31 +74,33 @@ module _ {A K H : Type 0} (entries : A → List (Key × Value)) (refusal : List 
 
 -- a grandmaster of these settings was served over the ports and clocks that were opened and are given back, or, where the settings
 -- say so, over these ports in two steps
-pub record IsServed {P C : Type 0} (ports : Ports P) (clocks : Clocks C) (opening back : Option (Opened P C)) (settings : GmSettings) (said : Said) : Type 0 where
-  pub as_they_are : settings.two_step ≡ false → HasServed ports clocks settings opening back said
-  pub in_two_steps : settings.two_step ≡ true → HasServedInTwo ports clocks settings opening back said
+pub record IsServed {P C : Type 0} (ports : Ports P) (clocks : Clocks C) (opening back : Option (Opened P C)) (speaking spoken : Option P)
+    (settings : GmSettings) (said : Said) : Type 0 where
+  pub as_they_are : settings.two_step ≡ false → HasServed ports clocks settings opening back speaking spoken said
+  pub in_two_steps : settings.two_step ≡ true → HasServedInTwo ports clocks settings opening back speaking spoken said
+
+-- the host was opened at the address and the port numbers of these settings, and its control port, where they name one, at that
+abbrev pub ServesAt : Option Endpoint → Option ℕ → GmSettings → Type 0
+ServesAt opened_at control_at settings =
+    IfTold opened_at (Some (endpoint_of settings)) × IfSome settings.control_port (λ number. IfTold control_at (Some number))
 
 module _ {K P C : Type 0} (ports : Ports P) (clocks : Clocks C) (written : K → Option (List ℕ)) (handed : K → Option (List (List ℕ)))
-    (old new : K) (opening back : Option (Opened P C)) (opened_at : Option Endpoint) where
-  -- the host was opened at the address and the port numbers of these settings
-  abbrev pub ServesAt : GmSettings → Type 0
-  ServesAt settings = IfTold opened_at (Some (endpoint_of settings))
-
+    (old new : K) (opening back : Option (Opened P C)) (speaking spoken : Option P) (opened_at : Option Endpoint) (control_at : Option ℕ) where
   -- a grandmaster of these settings was served, and the one line with its numbers was written
   abbrev pub ServedWhole : GmSettings → Type 0
-  ServedWhole settings = ServesAt settings × ((said : Said) × HasPut written handed old new (closing_line (all_rounds settings) said ∷ [])
-      × IsServed ports clocks opening back settings said)
+  ServedWhole settings = ServesAt opened_at control_at settings × ((said : Said) × HasPut written handed old new (closing_line said ∷ [])
+      × IsServed ports clocks opening back speaking spoken settings said)
 
   -- the line was not written whole
   abbrev pub ServedInPart : GmSettings → Type 0
-  ServedInPart settings = ServesAt settings × ((said : Said) × HasPutFront written handed old new (closing_line (all_rounds settings) said)
-      × IsServed ports clocks opening back settings said)
+  ServedInPart settings = ServesAt opened_at control_at settings × ((said : Said) × HasPutFront written handed old new (closing_line said)
+      × IsServed ports clocks opening back speaking spoken settings said)
 
   -- a run with the word `serve` ended with this status
   abbrev pub HasRunServe : {H : Type 0} → Option (List ℕ) → Option (List ℕ) → H → H → ℕ → Type 0
   HasRunServe left left' host host' status =
       HasRunDaemon gm_entries gm_refusal left left' written handed old new host host' ServedWhole ServedInPart
-      (λ settings. ServesAt settings × (new ≡ old)) status
+      (λ settings. ServesAt opened_at control_at settings × (new ≡ old)) status
 
 -- ---- the word `slave`
 

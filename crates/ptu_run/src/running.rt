@@ -50,7 +50,8 @@ fn run_command<W: AllocGlobal + Threads + Wait + Sync, S: Source, K: Sink, H: Ho
     ensures broken { result ≡ BROKEN_PROMISE
         → (capacity : ℕ) × (command ≡ Command.Audit capacity) }
     ensures served { command ≡ Command.Serve → HasRunServe H.P.Port H.C.Clock K.written K.handed
-        sink.old sink.new (H.opening host.old) (H.back host.new) (H.opened_at host.new)
+        sink.old sink.new (H.opening host.old) (H.back host.new) (H.control host.old)
+        (H.control_back host.new) (H.opened_at host.new) (H.control_at host.new)
         (S.left source.old) (S.left source.new) host.old host.new result }
     ensures followed { command ≡ Command.Slave → HasRunSlave H.P.Port H.C.Clock K.written K.handed
         sink.old sink.new (H.opening host.old) (H.back host.new) (H.opened_at host.new)
@@ -153,7 +154,8 @@ pub fn run<W: AllocGlobal + Threads + Wait + Sync, S: Source, K: Sink, H: Host>(
     // grandmaster of these is served over the host, whatever its ports do, and its line written.
     ensures served { words_command_of (map (λ w. w.now) words.now) ≡ Some Command.Serve
         → HasRunServe H.P.Port H.C.Clock K.written K.handed sink.old sink.new
-        (H.opening host.old) (H.back host.new) (H.opened_at host.new)
+        (H.opening host.old) (H.back host.new) (H.control host.old) (H.control_back host.new)
+        (H.opened_at host.new) (H.control_at host.new)
         (S.left source.old) (S.left source.new) host.old host.new result }
     // The word `slave`: likewise, with as many judges as the stock has.
     ensures followed { words_command_of (map (λ w. w.now) words.now) ≡ Some Command.Slave

@@ -1,3 +1,4 @@
+mod commands;
 mod daemon;
 mod daemon_lanes;
 mod lane_rounds;

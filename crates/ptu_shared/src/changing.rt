@@ -12,10 +12,10 @@ use crate::desk::{Desk, audit_table, audit_tables};
 use crate::place::{First, Fourth, Place, Second, Third};
 use crate::rates::{Rates, move_rate};
 use crate::table::Table;
-use ptu_admit::{Cancelled, Resized, cancel, finish, resize};
+use ptu_admit::{Cancelled, InForce, Resized, cancel, finish, resize};
 use ptu_history::Client;
 use ptu_outside::Port;
-use ptu_units::{Capacity, Kind, Moment, OutOfMemory};
+use ptu_units::{Kind, Moment, OutOfMemory};
 use std::alloc::Global;
 use std::sync::ledger::Ledger;
 
@@ -58,7 +58,7 @@ pub(crate) fn cancel_one<P: Port, L: Rates, G: Ledger, R: Ledger, J: Place>(
 pub(crate) struct Change {
     pub alloc: Global,
     pub at: Moment,
-    pub capacity: Capacity,
+    pub capacity: InForce,
 }
 
 // Changes the capacity in force by `resize`, under all four tables, in order of index, and the

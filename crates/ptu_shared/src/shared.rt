@@ -16,7 +16,7 @@ use crate::place::{First, Fourth, Place, Second, Third};
 use crate::rates::Rates;
 use crate::seat::Seat;
 use crate::table::Table;
-use ptu_admit::{Cancelled, Resized, Verdict};
+use ptu_admit::{Cancelled, InForce, Resized, Verdict};
 use ptu_history::{Client, table_of};
 use ptu_messages::{Ask, Header};
 use ptu_outside::Port;
@@ -232,7 +232,7 @@ impl<P: Port + Send, L: Rates, G: Ledger, R: Ledger> Shared<P, L, G, R> {
         &self,
         rt: &impl Wait,
         t: Moment,
-        capacity: Capacity,
+        capacity: InForce,
     ) -> Result<Resized, OutOfMemory>
         requires ledger { L.parts ≡ 4 }
         requires most { capacity ≤ L.most }

@@ -3,7 +3,7 @@ ghost use Rattle.ptu_shard.specs.Row.{share_of};
 ghost use Rattle.ptu_admit.specs.Lent.{four, shares};
 
 use ptu_admit::samples::{Told, numbers_of};
-use ptu_admit::{Book, Resized, Verdict, cancel, decide_all, decide_one, finish, resize};
+use ptu_admit::{Book, InForce, Resized, Verdict, cancel, decide_all, decide_one, finish, resize};
 use ptu_history::Client;
 use ptu_messages::Ask;
 use ptu_outside::MemPort;
@@ -100,7 +100,7 @@ fn change(
     alloc: Global,
     site: &mut Site,
     t: u64,
-    sixteenths: u64,
+    capacity: InForce,
 ) -> Result<Resized, Fail> {
     check_sum(rt, site);
     Ok(resize(
@@ -111,7 +111,7 @@ fn change(
         &mut site.s3,
         &mut site.book,
         moment(t)?,
-        capacity(sixteenths)?,
+        capacity,
     )?)
 }
 
@@ -201,29 +201,46 @@ fn grant_many(rt: &impl Abort, site: &mut Site, count: u32) -> Result<(), Fail> 
     Ok(())
 }
 
-// The greatest numbers are shed, in order.
-fn check_shed(rt: &impl Abort, resized: &Resized) {
-    let mut number = MANY;
+// The greatest of so many numbers are shed, in order, and so many are left.
+fn check_shed(rt: &impl Abort, resized: &Resized, before: u32, left: u32) {
+    let mut number = before;
     for shed in resized.shed.list() {
         number = number.saturating_sub(1);
         assert!(rt; shed.client == client_of(number));
     }
-    assert!(rt; number == MANY - MOST);
+    assert!(rt; number == left);
 }
 
 fn shed_most(rt: &impl Abort, alloc: Global, site: &mut Site) -> Result<(), Fail> {
     grant_many(rt, site, MANY)?;
-    let resized = change(rt, alloc, site, MANY as u64, (MANY - MOST) as u64)?;
-    check_shed(rt, &resized);
+    let left = InForce::of(capacity((MANY - MOST) as u64)?);
+    let resized = change(rt, alloc, site, MANY as u64, left)?;
+    check_shed(rt, &resized, MANY, MANY - MOST);
     drop(resized);
     Ok(())
 }
 
+// Where no capacity is in force, all grants end, and a further ask falls short.
+fn end_rest(rt: &impl Abort, alloc: Global, site: &mut Site) -> Result<(), Fail> {
+    let resized = change(rt, alloc, site, MANY as u64, InForce::NONE)?;
+    check_shed(rt, &resized, MANY - MOST, 0);
+    drop(resized);
+    assert_eq!(rt; (site.book.capacity(), site.book.total()), (0, 0));
+    let verdict = ask_all(rt, site, MANY as u64, &TWO, &announces(4))?;
+    assert_eq!(rt; numbers_of(&verdict), Told::Short(MANY as u64, 0, 1, 0));
+    Ok(())
+}
+
+fn shed_all(rt: &impl Abort, alloc: Global, site: &mut Site) -> Result<(), Fail> {
+    shed_most(rt, alloc, site)?;
+    end_rest(rt, alloc, site)
+}
+
 #[test]
-fn most_of_many_grants_are_shed(rt: HostRuntime) -> Result<(), Fail> {
+fn most_of_many_grants_are_shed_and_then_all(rt: HostRuntime) -> Result<(), Fail> {
     let alloc = rt.alloc();
     let mut site = open_site(alloc, MANY as u64)?;
-    let shed = shed_most(&rt, alloc, &mut site);
+    let shed = shed_all(&rt, alloc, &mut site);
     drop(site);
     shed
 }

@@ -2,7 +2,7 @@ ghost use Rattle.std.specs.Prelude.{◌≡◌, ◌≤◌, ◌<◌, ℕ};
 ghost use Rattle.ptu_shared.specs.{Blanks.{IsBlankOf}, Opening.{idle_port, sample_config}};
 
 use ptu_admit::samples::{Told, numbers_of};
-use ptu_admit::{Closed, Outside};
+use ptu_admit::{Closed, InForce, Outside};
 use ptu_history::Client;
 use ptu_messages::Ask;
 use ptu_outside::{MemPort, Port, samples};
@@ -137,7 +137,7 @@ impl<L: Rates, G: Ledger, R: Ledger> Site<L, G, R> {
         requires ledger { L.parts ≡ 4 }
         requires most { 8 ≤ L.most }
     {
-        let resized = self.shared.resize(rt, at, Capacity::SAMPLE);
+        let resized = self.shared.resize(rt, at, InForce::of(Capacity::SAMPLE));
         let resized = resized.expect(rt, "memory is found");
         assert!(rt; resized.at == at);
         let shed = resized.shed.list();

@@ -2,6 +2,7 @@ ghost use Rattle.std.specs.Prelude.{◌≡◌, ◌≤◌, ℕ, None};
 ghost use Rattle.ptu_shared.specs.{Blanks.{IsBlankOf}, Opening.{sample_config, untold_port}};
 
 use super::shared::{ANNOUNCE, GRANTED, GRANTED_LATER, SYNC, ask, capacity, moment, turn};
+use ptu_admit::InForce;
 use ptu_outside::{Channel, Failed, Port};
 use ptu_shard::samples::{ONE, SECOND, THREE, TWO, ZERO};
 use ptu_shared::{Blanks, Rates, Seat, Shared, TablePorts};
@@ -174,7 +175,7 @@ impl<L: Rates + Sync, G: Ledger + Sync, R: Ledger + Sync> Held<'_, '_, L, G, R> 
                 let _ = ask(rt, self.shared, &mut seat, SECOND, &THREE, (ANNOUNCE, -2));
             }
             Call::Resize => {
-                let same = capacity(rt, 64);
+                let same = InForce::of(capacity(rt, 64));
                 let _ = self.shared.resize(rt, moment(rt, SECOND), same);
             }
         }

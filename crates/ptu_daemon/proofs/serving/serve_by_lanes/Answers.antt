@@ -1,4 +1,4 @@
-use Rattle.std.proofs.Common.{◌≡◌, sym, subst, inl, inr, Result, Ok, Err}
+use Rattle.std.proofs.Common.{◌≡◌, refl, sym, subst, inl, inr, None, Result, Ok, Err}
 use Rattle.std.specs.Prelude.{IfOk}
 use Rattle.ptu_outside.specs.declared.{clock.Clock.{Ghosts as Clocks}, opened.Opened.{Opened}, port.Port.{Ghosts as Ports}}
 use Rattle.ptu_profile.specs.declared.grandmaster.GmConfig.{GmConfig}
@@ -17,15 +17,24 @@ of_equals : {P C : Type 0} (ports : Ports P) (clocks : Clocks C) (settings : GmS
 of_equals ports clocks settings config config' opened back numbers numbers' same equal h =
     subst (λ c. ServesByLanes ports clocks settings c opened back numbers') same (subst (λ n. ServesByLanes ports clocks settings config opened back n) (sym equal) h)
 
-pub returns-in-Served-clause-serves : goal.returns-in-Served-clause-serves
-returns-in-Served-clause-serves g c =
+pub returns-in-Served : goal.returns-in-Served
+returns-in-Served g c =
     let ended : ServesByLanes g.P.Port g.C.Clock c.args.settings.now c.config-config.result c.args.opened c.in-Served.back (numbers_of c.in-Served.totals) =
     rw c.in-Served.is at c.in_ok-back.ensures in
-    inl (of_equals g.P.Port g.C.Clock c.args.settings.now c.config-config.result (config_of c.args.settings.now) c.args.opened c.in-Served.back
-    (numbers_of c.in-Served.totals) (numbers_in (said_by c.closing_of.result)) c.config-config.ensures c.closing_of.ensures.numbers ended)
+    record {
+      serves = inl (
+        c.closing_of.ensures.rounds,
+        refl,
+        refl,
+        of_equals g.P.Port g.C.Clock c.args.settings.now c.config-config.result (config_of c.args.settings.now) c.args.opened c.in-Served.back
+            (numbers_of c.in-Served.totals) (numbers_in (said_by c.closing_of.result)) c.config-config.ensures c.closing_of.ensures.numbers ended,
+      );
+    }
 
-pub returns-in-Refused-clause-serves : goal.returns-in-Refused-clause-serves
-returns-in-Refused-clause-serves g c =
+pub returns-in-Refused : goal.returns-in-Refused
+returns-in-Refused g c =
     let same : c.in-Refused.opened ≡ c.args.opened = rw c.in-Refused.is at c.in_ok-back.ensures in
-    if_ok_more (λ r. Serves g.P.Port g.C.Clock c.args.settings.now c.in-Refused.opened r.0 (said_by r.1)) _ c.serve_rounds.result
-    (λ r serves. inr (subst (λ opened. Serves g.P.Port g.C.Clock c.args.settings.now opened r.0 (said_by r.1)) same serves)) c.serve_rounds.ensures.serves
+    record {
+      serves = if_ok_more (λ r. Serves g.P.Port g.C.Clock c.args.settings.now c.in-Refused.opened r.0 None None (said_by r.1)) _ c.serve_alone.result
+          (λ r serves. inr (subst (λ opened. Serves g.P.Port g.C.Clock c.args.settings.now opened r.0 None None (said_by r.1)) same serves)) c.serve_alone.ensures;
+    }

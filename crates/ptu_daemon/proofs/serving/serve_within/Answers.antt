@@ -16,12 +16,17 @@ if_err_more F (Err e) f h = λ is. f h
 pub returns-clause-answer : goal.returns-clause-answer
 returns-clause-answer g c =
     let said = said_by c.in_ok-back.closing in
-    let text_is = c.as_str.ensures.value ∙ c.in_ok-text.ensures ∙ ap (λ n. closing_line n said) c.in_ok-back.ensures.rounds in
-    let is : HasServed g.H.P.Port g.H.C.Clock c.args.settings.now (g.H.Host.opening c.args.host.now) (g.H.Host.back c.close.new.self) said = record {
+    let text_is = c.as_str.ensures.value ∙ c.in_ok-text.ensures in
+    let is : HasServed g.H.P.Port g.H.C.Clock c.args.settings.now (g.H.Host.opening c.args.host.now) (g.H.Host.back c.close_control.new.host)
+    (g.H.Host.control c.args.host.now) (g.H.Host.control_back c.close_control.new.host) said = record {
       opened = c.in-Ok.opened;
       closed = c.in_ok-back.back;
       opens = c.in-Ok.ensures.opened;
-      gives_back = c.close.ensures.back;
+      gives_back = search rules;
+      control = c.in-Ok-open_control.control;
+      control' = c.in_ok-back.control;
+      speaks = search rules;
+      speaks_back = c.close_control.ensures.back;
       serves = c.in_ok-back.ensures.serves;
       by_lanes = c.in_ok-back.ensures.by_lanes;
     } in
@@ -37,4 +42,5 @@ returns-clause-answer g c =
       opens = search rules;
       host_still = search rules;
       at = search rules;
+      spoken_at = search rules;
     }

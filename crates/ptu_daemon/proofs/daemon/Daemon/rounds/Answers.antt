@@ -1,29 +1,37 @@
-use Rattle.std.proofs.Common.{◌≡◌, arith, rules, subst}
-use Rattle.ptu_config.specs.{Limits.{IsGmInRange}, Rounds.{all_rounds}}
-use Rattle.ptu_daemon.specs.Ran.{DidRounds}
+use Rattle.std.proofs.Common.{◌≡◌, ◌∙◌, ◌+◌, ◌≤◌, arith, subst}
+use Rattle.std.specs.Prelude.{unwrap_or}
+use Rattle.ptu_config.specs.Rounds.{all_rounds}
+use Rattle.ptu_daemon.specs.Obeying.{DidAll, DidWhole}
 use Rattle.ptu_daemon.proofs.daemon.Daemon.rounds.Goals as goal
-use Rattle.ptu_daemon.proofs.Rounds.{did_more, did_none}
+use Rattle.ptu_daemon.proofs.Rounds.{all_done, ended, going_more, going_none}
 
 pub loop-before-init : goal.loop-before-init
-loop-before-init g c = record {
-  did = did_none g.P.Port g.C.Clock c.args.settings.now c.args.self.now c.default-tally.result c.default-tally.ensures;
-  small = (omega (arith, c.default-tally.ensures.0), omega (arith, c.default-tally.ensures.1));
-}
+loop-before-init g c = going_none g.P.Port g.C.Clock c.args.settings.now c.args.self.now c.args.control.now c.default-tally.result c.default-tally.ensures
 
-pub plus_round-tally-requires-clause-few : goal.plus_round-tally-requires-clause-few
-plus_round-tally-requires-clause-few g c =
-    let ranged : IsGmInRange c.args.settings.now = search rules in
-    omega (arith, c.loop-before-test.true, (c.all_rounds-before-end.ensures.range ranged).1)
+pub returns-then-done : goal.returns-then-done
+returns-then-done g c =
+    let now = c.loop-before in
+    let new = c.round_obeying.new in
+    let done = c.in_ok-done.done in
+    let did : DidWhole g.P.Port g.C.Clock c.args.settings.now (unwrap_or c.args.settings.now.control_key 0) now.before now.tally now.self new.self now.control new.control done =
+    subst (λ key. DidWhole g.P.Port g.C.Clock c.args.settings.now key now.before now.tally now.self new.self now.control new.control done) c.unwrap_or-key.ensures c.in_ok-done.ensures.did in
+    let all : now.before + 1 ≤ all_rounds c.args.settings.now = omega (arith, c.loop-before-test.true, c.all_rounds-all.ensures.value) in
+    ended g.P.Port g.C.Clock c.args.settings.now now.before c.args.self.now now.self new.self c.args.control.now now.control new.control now.tally done
+    now.invariant did c.if-done.true all
 
 pub loop-before-preserved : goal.loop-before-preserved
-loop-before-preserved g c = record {
-  did = rw (c.plus_round-tally.ensures.both)
-      (did_more g.P.Port g.C.Clock c.args.settings.now c.loop-before.before c.args.self.now c.loop-before.self c.round.new.self
-      c.loop-before.tally c.in_ok-round.field-0 c.loop-before.invariant.did c.in_ok-round.ensures.did);
-  small = c.plus_round-tally.ensures.small;
-}
+loop-before-preserved g c =
+    let now = c.loop-before in
+    let new = c.round_obeying.new in
+    let done = c.in_ok-done.done in
+    let did : DidWhole g.P.Port g.C.Clock c.args.settings.now (unwrap_or c.args.settings.now.control_key 0) now.before now.tally now.self new.self now.control new.control done =
+    subst (λ key. DidWhole g.P.Port g.C.Clock c.args.settings.now key now.before now.tally now.self new.self now.control new.control done) c.unwrap_or-key.ensures c.in_ok-done.ensures.did in
+    going_more g.P.Port g.C.Clock c.args.settings.now now.before c.args.self.now now.self new.self c.args.control.now now.control new.control now.tally done
+    now.invariant did c.if-done.false c.in_ok-done.ensures.small
 
 pub returns : goal.returns
 returns g c =
-    let all : c.loop-before.before ≡ all_rounds c.args.settings.now = omega (arith, c.loop-before-test.false, c.loop-before.auto.before-end, c.all_rounds-before-end.ensures.value) in
-    record { did = subst (λ n. DidRounds g.P.Port g.C.Clock c.args.settings.now n c.args.self.now c.loop-before.self c.loop-before.tally) all c.loop-before.invariant.did }
+    let now = c.loop-before in
+    let all : now.before ≡ c.all_rounds-all.result = omega (arith, c.loop-before-test.false, now.auto.before-end) in
+    subst (λ n. DidAll g.P.Port g.C.Clock c.args.settings.now n c.args.self.now now.self c.args.control.now now.control now.tally) all
+    (all_done g.P.Port g.C.Clock c.args.settings.now c.args.self.now now.self c.args.control.now now.control now.before now.tally now.invariant (all ∙ c.all_rounds-all.ensures.value))

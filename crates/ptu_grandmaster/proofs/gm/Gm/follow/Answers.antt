@@ -51,6 +51,6 @@ returns-in_ok-set_capacity-in-Capacity-clause-follows g c =
     let capacity = c.lent.result in
     rw (c.in-Capacity.is, ← c.handed-in-Capacity.ensures.value, ← c.lent.ensures.value) (λ opening history s.
     let opened = opened_with opening old.config in (
-      rw (history_after-one opened history t (events.Resize capacity)) (c.in_ok-set_capacity-in-Capacity.ensures.stands opening history s),
+      rw (history_after-one opened history t (events.Resize capacity)) (c.in_ok-set_capacity-in-Capacity.ensures.changed.stands opening history s),
       change_sent opened history t capacity,
     ))

@@ -11,7 +11,7 @@ returns-clause-done c =
     let kept : c.in_ok-cancels.cancels ≡ rows_kept c.args.self.now.gm = search rules in
     let rows : rows_kept c.reserve.new.gm ≡ c.in_ok-cancels.cancels = ap rows_kept c.in_ok-reserve.ensures.rest ∙ sym kept in
     let wide : c.in_ok-cancels.cancels * 428 ≤ c.in_ok-octets.octets = search rules in
-    let changed = c.in_ok-changed.ensures in
+    let changed = c.in_ok-changed.ensures.changed in
     on_ok_four c.hand_over_all.result (λ handed last idle sure g is.
     let few : length (leases_shed c.in_ok-changed.changed.shed) ≤ rows_kept c.reserve.new.gm =
     cancels_few g.capacity c.reserve.new.gm g.past (c.in_ok-reserve.ensures.goes_on.stands g.capacity g.past is.stands) c.args.at c.args.capacity _ _

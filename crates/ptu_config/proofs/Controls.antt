@@ -1,0 +1,76 @@
+-- Whether a document names a control port, and which numbers it may have.
+use Rattle.std.proofs.Common.{◌≡◌, ◌∙◌, ℕ, zero, suc, ◌&&◌, ◌||◌, ◌==◌, not, List, [], ◌∷◌, if◌then◌else◌, Bool, true, false, Option, Some, None, option_map, pos, negsuc, codes, refl, sym, ap}
+use Rattle.std.specs.Prelude.{MatchOption, is_some}
+use Rattle.std.specs.List.{list_all}
+use Rattle.toml.specs.Data.{Data, string, integer, float, boolean, datetime, array, table, Members, get_member}
+use Rattle.ptu_units.specs.Limits.{least_udp_port}
+use Rattle.ptu_config.specs.declared.key.Key.{Key}
+use Rattle.ptu_config.specs.declared.key.Key.TheVariants.{ControlPort, EventPort, GeneralPort}
+use Rattle.ptu_config.specs.{Entries.{number_or_nothing}, Forms.{whole_in}, Limits.{greatest_control_port}}
+use Rattle.ptu_config.specs.Rules.{Value, number, logarithm, truth, masters, nothing, whole, is_above_zero, is_number, is_other_than, read_by, rule_of, setting_of, unlike}
+
+by_test : (test : Bool) (n : ℕ) (p : Option ℕ) → (if test then Some (number n) else None) ≡ Some (number_or_nothing p) → true ≡ is_some p
+by_test test n (Some m) said = refl
+by_test true n None said = cc
+by_test false n None said = cc
+
+-- what is unlike others is a number
+some_number : (document : Members) (keys : List Key) (found : Option Value) (p : Option ℕ) → unlike document keys found ≡ Some (number_or_nothing p) → true ≡ is_some p
+some_number document keys None p said = cc
+some_number document keys (Some (number n)) p said = by_test (list_all (is_other_than document n) keys) n p said
+some_number document keys (Some (logarithm z)) p said = cc
+some_number document keys (Some (truth b)) p said = cc
+some_number document keys (Some (masters list)) p said = cc
+some_number document keys (Some nothing) p said = cc
+
+nothing_said : (p : Option ℕ) → Some nothing ≡ Some (number_or_nothing p) → false ≡ is_some p
+nothing_said None said = refl
+nothing_said (Some n) said = cc
+
+-- the value is a whole number above 0 where a port is said
+above : (document : Members) (found : Option Data) (p : Option ℕ) →
+    read_by (rule_of ControlPort) document found ≡ Some (number_or_nothing p) → is_above_zero found ≡ is_some p
+above document None p said = nothing_said p said
+above document (Some (integer (pos zero))) p said = cc
+above document (Some (integer (pos (suc k)))) p said = some_number document (EventPort ∷ GeneralPort ∷ []) _ p said
+above document (Some (integer (negsuc k))) p said = cc
+above document (Some (string s)) p said = cc
+above document (Some (float x)) p said = cc
+above document (Some (boolean b)) p said = cc
+above document (Some (datetime d)) p said = cc
+above document (Some (array items)) p said = cc
+above document (Some (table _)) p said = cc
+
+pub is_set : (document : Members) (p : Option ℕ) → setting_of document ControlPort ≡ Some (number_or_nothing p) →
+    is_above_zero (get_member (codes "control_port") document) ≡ is_some p
+unfolding setting_of
+is_set document p said = above document (get_member (codes "control_port") document) p said
+
+neither : (a b : Bool) → (not a && (not b && true)) ≡ not (a || b)
+neither true b = refl
+neither false true = refl
+neither false false = refl
+
+unlike_both : (a b test : Bool) (n : ℕ) → test ≡ (not a && (not b && true)) →
+    (if test then Some (number n) else None) ≡ option_map number (if a || b then None else Some n)
+unlike_both true b test n is = rw is refl
+unlike_both false true test n is = rw is refl
+unlike_both false false test n is = rw is refl
+
+same_test : (n e g : ℕ) (event general : Option Value) → event ≡ Some (number e) → general ≡ Some (number g) →
+    (not (is_number n event) && (not (is_number n general) && true)) ≡ (not (n == e) && (not (n == g) && true))
+same_test n e g event general is is' = rw (is, is') refl
+
+-- a control port is said where it is neither of the two other ports
+pub third_said : (document : Members) (value : Data) (e g : ℕ) (result : Option ℕ) →
+    setting_of document EventPort ≡ Some (number e) → setting_of document GeneralPort ≡ Some (number g) →
+    MatchOption (whole_in least_udp_port greatest_control_port value) (result ≡ None) (λ n. result ≡ (if n == e || n == g then None else Some n)) →
+    read_by (rule_of ControlPort) document (Some value) ≡ option_map number result
+unfolding setting_of
+third_said document value e g result event general third = by (whole_in least_udp_port greatest_control_port value) third
+  where
+    by : (found : Option ℕ) → MatchOption found (result ≡ None) (λ n. result ≡ (if n == e || n == g then None else Some n)) →
+        unlike document (EventPort ∷ GeneralPort ∷ []) (option_map number found) ≡ option_map number result
+    by None is = rw is refl
+    by (Some n) is =
+        unlike_both (n == e) (n == g) _ n (same_test n e g _ _ event general) ∙ ap (option_map number) (sym is)

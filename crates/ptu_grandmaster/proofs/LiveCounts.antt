@@ -1,0 +1,134 @@
+-- How many grants are live, by the rows of the tables.
+use Rattle.std.proofs.Common.{◌≡◌, ◌∙◌, ◌⊎◌, inl, inr, ℕ, zero, suc, ◌+◌, ◌<◌, ◌≤◌, ◌++◌, List, [], ◌∷◌, map, take, length, slice_get, Bool, true, not, cond, eqb, ltb, Some, None, refl, sym, ap, subst, arith}
+use Rattle.std.specs.{Prelude.{nat_lt}, List.{Contains, filter, sum_by}}
+use Rattle.std.proofs.lemmas.Bool.{eq-eqb, eqb-true, ltb-true}
+use Rattle.std.proofs.lemmas.List.{Elements.{filter-append}, Filters.{sum_by-filter_both}, Kept.{AllPairs-filter}, Sums.{sum_by-append, sum_by-cons}}
+use Rattle.ptu_units.specs.declared.kind.{Kind.{Kind}, Kind.TheVariants.{Announce, Sync, DelayResp}}
+use Rattle.ptu_history.specs.{Client.{same_kind, table_of}, Core.{book_step_moment}, History.{Record}, Moments.{book_moment}, Verdict.{table_rates}}
+use Rattle.ptu_history.specs.Live.{Grant, IsLastDecision, is_of, live_grants, without}
+use Rattle.ptu_history.proofs.{Keys.{same_lease-refl}, Members.{Differ}, Orders.{live_distinct, live_members}}
+use Rattle.ptu_history.proofs.{Standing.{Contains-filter}, Unique.{Apart, Apart-from_pairs, Contains-cons_cases, Contains-first, Contains-from_filter, Contains-later}}
+use Rattle.ptu_shard.specs.{declared.lease.Row.{Row}, Row.{IsDistinctByLease, share_of}, Table.{Kept, StandsAt}}
+use Rattle.ptu_shard.proofs.RowLists as row_lists
+use Rattle.ptu_admit.specs.{declared.live.Live.{Live}, Book.{KeptBook}, Lent.{StandFor, four, lent_as, moment_for_all}}
+use Rattle.ptu_admit.specs.{LiveRows.{rows_of_kind}, Newest.{grant_of}, Rows.{live_rows}}
+use Rattle.ptu_admit.proofs.{Grants.{live_share, row_of_live}, StepMoments.{moment-all}}
+use Rattle.ptu_admit.proofs.Sums.{Contains-from_map, Contains-map, IsMapped, distinct_grants, row_rate}
+use Rattle.ptu_grandmaster.specs.declared.status.GmStatus.{GmStatus}
+use Rattle.ptu_grandmaster.specs.Gm.{KeptGm, StandsFor, tables}
+use Rattle.ptu_grandmaster.specs.Status.{AreAllLive, IsGmStatusOf, table_grants}
+
+-- ---- grants, by any weight
+
+abbrev in_table : ℕ → Grant → Bool
+in_table j g = eqb (table_of g.client) j
+
+abbrev is_live_row : ℕ → Row → Bool
+is_live_row x row = ltb x row.lease.until
+
+module _ (w : Grant → ℕ) where
+  member-le : (gs : List Grant) (g : Grant) → Contains gs g → w g ≤ sum_by w gs
+  member-le [] g (i, lt, h) = absurd (omega arith)
+  member-le (x ∷ gs) g h = at (Contains-cons_cases x gs g h) (member-le gs g)
+    where
+      at : (x ≡ g) ⊎ Contains gs g → (Contains gs g → w g ≤ sum_by w gs) → w g ≤ sum_by w (x ∷ gs)
+      at (inl e) later = let same : w x ≡ w g = ap w e in omega (arith, same, sum_by-cons w x gs)
+      at (inr h) later = omega (arith, later h, sum_by-cons w x gs)
+
+  -- a distinct list whose members are among those of another weighs no more
+  within : (xs ys : List Grant) → Apart Differ xs → ((g : Grant) → Contains xs g → Contains ys g) → sum_by w xs ≤ sum_by w ys
+  within [] ys apart inside = omega arith
+  within (x ∷ xs) ys apart inside =
+      let own : w x ≤ sum_by w (filter (is_of x.client x.kind) ys) =
+      member-le (filter (is_of x.client x.kind) ys) x (Contains-filter (is_of x.client x.kind) ys x (inside x (Contains-first x xs)) (same_lease-refl x.client x.kind)) in
+      let ih : sum_by w xs ≤ sum_by w (without x.client x.kind ys) = within xs (without x.client x.kind ys) apart.1 (λ g h.
+      Contains-filter (λ g. not (is_of x.client x.kind g)) ys g (inside g (Contains-later x xs g h)) (ap not (apart.0 g h))) in
+      omega (arith, own, ih, sum_by-cons w x xs, sum_by-filter_both (is_of x.client x.kind) (λ g. not (is_of x.client x.kind g)) (λ _. refl) w ys)
+
+  of_rows : (rs : List Row) → sum_by (λ row. w (grant_of row)) rs ≡ sum_by w (map grant_of rs)
+  of_rows [] = refl
+  of_rows (r ∷ rs) =
+      sum_by-cons (λ row. w (grant_of row)) r rs ∙ ap (λ n. w (grant_of r) + n) (of_rows rs) ∙ sym (sum_by-cons w (grant_of r) (map grant_of rs))
+
+  -- the live rows of a table weigh what the live grants of its clients do
+  pub same_weight : (book j : ℕ) (xs : List Row) (moment : ℕ) (history : List Record) (x : ℕ) → StandsAt book j xs moment history → (book ≤ x) ⊎ (moment ≤ x) →
+      IsDistinctByLease xs → sum_by (λ row. w (grant_of row)) (live_rows x xs) ≡ sum_by w (filter (in_table j) (live_grants history x))
+  same_weight book j xs moment history x s reached distinct =
+      let apart = Apart-from_pairs Differ (filter (in_table j) (live_grants history x)) (AllPairs-filter Differ (in_table j) (live_grants history x) (live_distinct history x)) in
+      let more : sum_by w (filter (in_table j) (live_grants history x)) ≤ sum_by w (map grant_of (live_rows x xs)) =
+      within (filter (in_table j) (live_grants history x)) (map grant_of (live_rows x xs)) apart (λ g h.
+      let both : Contains (live_grants history x) g × (in_table j g ≡ true) = Contains-from_filter (in_table j) (live_grants history x) g h in
+      let is : IsLastDecision history g × (x < g.until) = (live_members history x g).0 both.0 in
+      let m : IsMapped grant_of (live_rows x xs) g = row_of_live book j xs moment history x s reached g is.0 is.1 (eqb-true (table_of g.client) j both.1) in
+      subst (λ z. Contains (map grant_of (live_rows x xs)) z) m.is (Contains-map grant_of (live_rows x xs) m.from m.contained)) in
+      let less : sum_by w (map grant_of (live_rows x xs)) ≤ sum_by w (filter (in_table j) (live_grants history x)) =
+      within (map grant_of (live_rows x xs)) (filter (in_table j) (live_grants history x))
+      (distinct_grants (live_rows x xs) (AllPairs-filter row_lists.Differ (is_live_row x) xs distinct)) (λ g h.
+      let m : IsMapped grant_of (live_rows x xs) g = Contains-from_map grant_of (live_rows x xs) g h in
+      let both : Contains xs m.from × (is_live_row x m.from ≡ true) = Contains-from_filter (is_live_row x) xs m.from m.contained in
+      let kept = s.kept m.from both.0 in
+      subst (λ z. Contains (filter (in_table j) (live_grants history x)) z) m.is
+      (Contains-filter (in_table j) (live_grants history x) (grant_of m.from)
+      ((live_members history x (grant_of m.from)).1 (kept.1.granted, ltb-true x m.from.lease.until both.1))
+      (eq-eqb (table_of m.from.client) j kept.0))) in
+      omega (arith, more, less, of_rows (live_rows x xs))
+
+same_count : (k : Kind) (book j : ℕ) (xs : List Row) (moment : ℕ) (history : List Record) (x : ℕ) → StandsAt book j xs moment history → (book ≤ x) ⊎ (moment ≤ x) →
+    IsDistinctByLease xs → rows_of_kind k (live_rows x xs) ≡ table_grants history x k j
+unfolding table_grants
+same_count k book j xs moment history x s reached distinct =
+    same_weight (λ (g : Grant). cond (same_kind g.kind k) 1 0) book j xs moment history x s reached distinct
+
+-- ---- all tables
+
+module _ {P : Type 0} (opening : ℕ) (gm : KeptGm P) (history : List Record) (s : StandsFor opening gm history) where
+  is_reached : moment_for_all 0 gm.book (tables gm) ≡ book_step_moment history 0
+  is_reached = moment-all opening 0 (lent_as 0 gm.s0) (lent_as 1 gm.s1) (lent_as 2 gm.s2) (lent_as 3 gm.s3) gm.book history s.decided refl refl refl refl
+
+  reached : book_moment history ≤ moment_for_all 0 gm.book (tables gm)
+  reached = let now = s.decided.moment in omega arith
+
+  of_kind : (k : Kind) → IsDistinctByLease gm.s0.rows × IsDistinctByLease gm.s1.rows × IsDistinctByLease gm.s2.rows × IsDistinctByLease gm.s3.rows →
+      rows_of_kind k (live_rows (moment_for_all 0 gm.book (tables gm)) gm.s0.rows) + rows_of_kind k (live_rows (moment_for_all 0 gm.book (tables gm)) gm.s1.rows)
+      + (rows_of_kind k (live_rows (moment_for_all 0 gm.book (tables gm)) gm.s2.rows) + rows_of_kind k (live_rows (moment_for_all 0 gm.book (tables gm)) gm.s3.rows))
+      ≡ table_grants history (book_step_moment history 0) k 0 + table_grants history (book_step_moment history 0) k 1
+      + table_grants history (book_step_moment history 0) k 2 + table_grants history (book_step_moment history 0) k 3
+  of_kind k (d0, d1, d2, d3) =
+      let x = moment_for_all 0 gm.book (tables gm) in
+      let t = s.decided.tables in
+      let c0 : rows_of_kind k (live_rows x gm.s0.rows) ≡ table_grants history (book_step_moment history 0) k 0 =
+      same_count k (book_moment history) 0 gm.s0.rows gm.s0.moment history x t.0 (inl reached) d0 ∙ ap (λ m. table_grants history m k 0) is_reached in
+      let c1 : rows_of_kind k (live_rows x gm.s1.rows) ≡ table_grants history (book_step_moment history 0) k 1 =
+      same_count k (book_moment history) 1 gm.s1.rows gm.s1.moment history x t.1.0 (inl reached) d1 ∙ ap (λ m. table_grants history m k 1) is_reached in
+      let c2 : rows_of_kind k (live_rows x gm.s2.rows) ≡ table_grants history (book_step_moment history 0) k 2 =
+      same_count k (book_moment history) 2 gm.s2.rows gm.s2.moment history x t.1.1.0 (inl reached) d2 ∙ ap (λ m. table_grants history m k 2) is_reached in
+      let c3 : rows_of_kind k (live_rows x gm.s3.rows) ≡ table_grants history (book_step_moment history 0) k 3 =
+      same_count k (book_moment history) 3 gm.s3.rows gm.s3.moment history x t.1.1.1.0 (inl reached) d3 ∙ ap (λ m. table_grants history m k 3) is_reached in
+      omega (arith, c0, c1, c2, c3)
+
+  pub status_is : (status : GmStatus) (live : Live) → status.moment ≡ moment_for_all 0 gm.book (tables gm) → AreAllLive status.moment gm live →
+      status.held ≡ live.rates → status.announces ≡ live.announces → status.syncs ≡ live.syncs → status.delay_resps ≡ live.delay_resps →
+      status.capacity ≡ gm.book.capacity → status.granted ≡ gm.granted → status.refused ≡ gm.refused → IsGmStatusOf opening history status
+  status_is status live moment all held announces syncs delay_resps capacity granted refused =
+      let x = moment_for_all 0 gm.book (tables gm) in
+      let a : AreAllLive x gm live = subst (λ m. AreAllLive m gm live) moment all in
+      let t = s.decided.tables in
+      let d = a.distinct in
+      let r0 : share_of (live_rows x gm.s0.rows) ≡ table_rates history (book_step_moment history 0) 0 =
+      live_share (book_moment history) 0 gm.s0.rows gm.s0.moment history x t.0 (inl reached) d.0 ∙ ap (λ m. table_rates history m 0) is_reached in
+      let r1 : share_of (live_rows x gm.s1.rows) ≡ table_rates history (book_step_moment history 0) 1 =
+      live_share (book_moment history) 1 gm.s1.rows gm.s1.moment history x t.1.0 (inl reached) d.1 ∙ ap (λ m. table_rates history m 1) is_reached in
+      let r2 : share_of (live_rows x gm.s2.rows) ≡ table_rates history (book_step_moment history 0) 2 =
+      live_share (book_moment history) 2 gm.s2.rows gm.s2.moment history x t.1.1.0 (inl reached) d.2 ∙ ap (λ m. table_rates history m 2) is_reached in
+      let r3 : share_of (live_rows x gm.s3.rows) ≡ table_rates history (book_step_moment history 0) 3 =
+      live_share (book_moment history) 3 gm.s3.rows gm.s3.moment history x t.1.1.1.0 (inl reached) d.3 ∙ ap (λ m. table_rates history m 3) is_reached in
+      record {
+        moment = moment ∙ is_reached;
+        capacity = capacity ∙ s.decided.capacity;
+        held = omega (arith, held, a.rates, r0, r1, r2, r3);
+        announces = announces ∙ a.announces ∙ of_kind Announce d;
+        syncs = syncs ∙ a.syncs ∙ of_kind Sync d;
+        delay_resps = delay_resps ∙ a.delay_resps ∙ of_kind DelayResp d;
+        granted = granted ∙ s.granted;
+        refused = refused ∙ s.refused;
+      }

@@ -1,0 +1,61 @@
+-- How a grandmaster stands, by its history.
+use Rattle.std.specs.Prelude.{◌≡◌, ℕ, ◌+◌, ◌==◌, List, count_by}
+use Rattle.std.specs.List.{filter}
+use Rattle.ptu_units.specs.declared.kind.Kind.{Kind}
+use Rattle.ptu_units.specs.declared.kind.Kind.TheVariants.{Announce, Sync, DelayResp}
+use Rattle.ptu_units.specs.Counts.{counted}
+use Rattle.ptu_history.specs.{Client.{same_kind, table_of}, Core.{book_step_moment}, Counts.{counts}}
+use Rattle.ptu_history.specs.{History.{Record, capacity_in_force}, Live.{Grant, live_grants}, Verdict.{table_rates}}
+use Rattle.ptu_shard.specs.Row.{IsDistinctByLease, share_of}
+use Rattle.ptu_admit.specs.{declared.live.Live.{Live}, LiveRows.{rows_of_kind}, Rows.{live_rows}}
+use Rattle.ptu_grandmaster.specs.declared.status.GmStatus.{GmStatus}
+use Rattle.ptu_grandmaster.specs.Gm.{KeptGm}
+
+-- how many of these grants are of the kind
+abbrev pub grants_of_kind : Kind → List Grant → ℕ
+grants_of_kind k grants = count_by (λ (g : Grant). same_kind g.kind k) grants
+
+-- how many grants of the kind are live at the moment, of clients of the table
+unfoldable pub table_grants : List Record → ℕ → Kind → ℕ → ℕ
+table_grants history x k j = grants_of_kind k (filter (λ g. table_of g.client == j) (live_grants history x))
+
+-- how many are, of all clients
+abbrev pub live_of_kind : List Record → ℕ → Kind → ℕ
+live_of_kind history x k =
+    table_grants history x k 0 + table_grants history x k 1 + table_grants history x k 2 + table_grants history x k 3
+
+-- the sum of the rates of the grants that are live at the moment
+abbrev pub live_rates : List Record → ℕ → ℕ
+live_rates history x =
+    table_rates history x 0 + table_rates history x 1 + table_rates history x 2 + table_rates history x 3
+
+-- it is how a grandmaster stands after the history that was opened with this capacity: at the greatest
+-- moment of its tables and its book
+pub record IsGmStatusOf (opening : ℕ) (history : List Record) (status : GmStatus) : Type 0 where
+  pub moment : status.moment ≡ book_step_moment history 0
+  pub capacity : status.capacity ≡ capacity_in_force opening history
+  pub held : status.held ≡ live_rates history (book_step_moment history 0)
+  pub announces : status.announces ≡ live_of_kind history (book_step_moment history 0) Announce
+  pub syncs : status.syncs ≡ live_of_kind history (book_step_moment history 0) Sync
+  pub delay_resps : status.delay_resps ≡ live_of_kind history (book_step_moment history 0) DelayResp
+  pub granted : status.granted ≡ counted (counts history).granted
+  pub refused : status.refused ≡ counted (counts history).short
+
+-- ---- all tables
+
+-- how many rows of the kind are live at the moment, in all tables
+abbrev pub all_of_kind : {P : Type 0} → Kind → ℕ → KeptGm P → ℕ
+all_of_kind k at gm =
+    rows_of_kind k (live_rows at gm.s0.rows) + rows_of_kind k (live_rows at gm.s1.rows)
+    + (rows_of_kind k (live_rows at gm.s2.rows) + rows_of_kind k (live_rows at gm.s3.rows))
+
+-- they are the grants of all tables that are live at the moment, and no two rows of a table are of one
+-- client and kind
+pub record AreAllLive {P : Type 0} (at : ℕ) (gm : KeptGm P) (live : Live) : Type 0 where
+  pub rates : live.rates ≡ share_of (live_rows at gm.s0.rows) + share_of (live_rows at gm.s1.rows)
+      + (share_of (live_rows at gm.s2.rows) + share_of (live_rows at gm.s3.rows))
+  pub announces : live.announces ≡ all_of_kind Announce at gm
+  pub syncs : live.syncs ≡ all_of_kind Sync at gm
+  pub delay_resps : live.delay_resps ≡ all_of_kind DelayResp at gm
+  pub distinct : IsDistinctByLease gm.s0.rows × IsDistinctByLease gm.s1.rows × IsDistinctByLease gm.s2.rows
+      × IsDistinctByLease gm.s3.rows
