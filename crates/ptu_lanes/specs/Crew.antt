@@ -1,14 +1,15 @@
 -- What comes of lanes that are called in threads of their own, and of a grandmaster that is to be served by them (the project's own
 -- choice).
-use Rattle.std.specs.Prelude.{◌≡◌, ℕ, ◌+◌, ◌-◌, ◌*◌, ◌^◌, min, List, [], Result, Ok, IfOk, IfSome}
+use Rattle.std.specs.Prelude.{◌≡◌, ℕ, ◌+◌, ◌-◌, ◌*◌, ◌^◌, min, false, List, [], length, Option, Result, Ok, IfOk, IfSome}
 use Rattle.ptu_outside.specs.declared.{clock.Clock.{Ghosts as Clocks}, opened.Opened.{Opened}, port.Port.{Ghosts as Ports}}
 use Rattle.ptu_outside.specs.Faults.{HasRisen}
 use Rattle.ptu_profile.specs.declared.grandmaster.GmConfig.{GmConfig}
 use Rattle.ptu_shared.specs.{Opening.{HaveFailed}, Seats.{SeatCounts}}
-use Rattle.ptu_config.specs.{declared.settings.GmSettings.{GmSettings}, Rounds.{all_rounds}}
+use Rattle.ptu_config.specs.declared.settings.GmSettings.{GmSettings}
+use Rattle.ptu_lanes.specs.{declared.orders.ControlPort.{ControlPort}, Orders.{WasSpokenTo, capacity_after}}
 use Rattle.ptu_lanes.specs.Served.{ExchangedAll, IsControlled}
-use Rattle.ptu_lanes.specs.{Stretches.{EventLaneDid, TookDelayReqs}, Waiting.{TurnedOwn}}
-use Rattle.ptu_lanes.specs.declared.lanes.{EventLane.{EventLane}, Lanes.{Lanes}, SendingLane.{SendingLane}, SendingLanes.{SendingLanes}}
+use Rattle.ptu_lanes.specs.{Stretches.{EventLaneDid, TookDelayReqs, control_of}, Waiting.{TurnedOwn}}
+use Rattle.ptu_lanes.specs.declared.lanes.{ControlLane.{ControlLane}, EventLane.{EventLane}, Lanes.{Lanes}, SendingLane.{SendingLane}, SendingLanes.{SendingLanes}}
 use Rattle.ptu_lanes.specs.declared.calls.{Call.{Call}, Called.{Called}, EventWork.{EventWork}, SendingCalls.{SendingCalls}, SendingWork.{SendingWork}}
 use Rattle.ptu_lanes.specs.declared.calls.Call.TheVariants as calls
 use Rattle.ptu_lanes.specs.declared.calls.Called.TheVariants.{Idle, Left, Served}
@@ -46,45 +47,65 @@ HasLeft lane (Idle back) = lane ≡ back
 
 -- what a thread promises of the lane that takes Delay_Reqs, and of one that turns tables
 abbrev pub EventKept : {P C : Type 0} → Ports P → Clocks C → EventWork P C → Called (EventLane P C) → Type 0
-EventKept ports clocks work called = CrewCameTo (EventLaneDid ports clocks work.rounds work.lane.value) work.lane.value called
+EventKept ports clocks work called = CrewCameTo (λ (new : EventLane _ _). EventLaneDid ports clocks new.done work.lane.value new) work.lane.value called
 
 abbrev pub SendingKept : {C : Type 0} → Clocks C → SendingWork C → Called (SendingLane C) → Type 0
 SendingKept clocks work called =
-    CrewCameTo (λ new. TurnedOwn clocks work.position.count work.position.index work.rounds work.lane.value.clock new.clock) work.lane.value called
+    CrewCameTo (λ new. TurnedOwn clocks work.position.count work.position.index new.done work.lane.value.clock new.clock) work.lane.value called
 
 -- ---- all lanes
 
 -- the lane of this index that turns tables is at work so
-abbrev pub IsTurning : {C : Type 0} → Clocks C → ℕ → ℕ → ℕ → SendingLane C → Call (Called (SendingLane C)) (SendingWork C) → Type 0
-IsTurning clocks lanes lane rounds old call =
-    IsAtWork (λ (new : SendingLane _). TurnedOwn clocks lanes lane rounds old.clock new.clock) old (SendingKept clocks) call
+abbrev pub IsTurning : {C : Type 0} → Clocks C → ℕ → ℕ → SendingLane C → Call (Called (SendingLane C)) (SendingWork C) → Type 0
+IsTurning clocks lanes lane old call =
+    IsAtWork (λ (new : SendingLane _). TurnedOwn clocks lanes lane new.done old.clock new.clock) old (SendingKept clocks) call
 
-pub record AreTurning {C : Type 0} (clocks : Clocks C) (lanes rounds : ℕ) (old : SendingLanes C) (calls : SendingCalls C) : Type 0 where
-  pub first : IsTurning clocks lanes 0 rounds old.first calls.first
-  pub second : IsTurning clocks lanes 1 rounds old.second calls.second
-  pub third : IsTurning clocks lanes 2 rounds old.third calls.third
-  pub fourth : IsTurning clocks lanes 3 rounds old.fourth calls.fourth
+pub record AreTurning {C : Type 0} (clocks : Clocks C) (lanes : ℕ) (old : SendingLanes C) (calls : SendingCalls C) : Type 0 where
+  pub first : IsTurning clocks lanes 0 old.first calls.first
+  pub second : IsTurning clocks lanes 1 old.second calls.second
+  pub third : IsTurning clocks lanes 2 old.third calls.third
+  pub fourth : IsTurning clocks lanes 3 old.fourth calls.fourth
 
--- what the lane did that takes Signaling in all rounds, with the change of capacity: its port and its clock, before and after, what
--- its seat has counted, how many datagrams it has counted that were sent, and how many calls of the port failed
-pub record ServedSignaling {P C : Type 0} (ports : Ports P) (clocks : Clocks C) (settings : GmSettings) (config : GmConfig) (port port' : P) (clock clock' : C) (counted : SeatCounts) (gone failures : ℕ) : Type 0 where
+-- what the lane did that takes Signaling in all rounds, with the changes of capacity and the orders: its port, its clock and its control
+-- port, before and after, what its seat has counted, how many datagrams it has counted that were sent, how many calls of the port failed,
+-- how many rounds it did, and the capacity that it put in force last
+pub record ServedSignaling {P C : Type 0} (ports : Ports P) (clocks : Clocks C) (settings : GmSettings) (config : GmConfig) (port port' : P) (clock clock' : C)
+    (speaking speaking' : Option P) (counted : SeatCounts) (gone failures done in_force : ℕ) : Type 0 where
   pub control : ¬ HasRisen (ports.faults port) (ports.faults port') → IfSome (ports.waiting port') (λ left.
       IsControlled ports settings config port port' left counted.granted counted.refused)
   pub exchanged : ExchangedAll ports clocks settings config port port' clock clock' counted.granted counted.refused
+  pub all_done : done ≡ length exchanged.rounds
+  pub spoken : WasSpokenTo ports settings 0 settings.class settings.capacity exchanged.rounds speaking speaking'
+  pub in_force : in_force ≡ capacity_after settings 0 settings.capacity exchanged.rounds
   pub sends : gone ≡ min exchanged.sent (2 ^ 128 - 1)
   pub failed : HaveFailed ports.counts_once failures (ports.faults port) (ports.faults port')
 
+-- a lane that has done nothing yet
+pub record IsFresh {P C G R : Type 0} (settings : GmSettings) (lane : ControlLane P C G R) : Type 0 where
+  pub done : lane.done ≡ 0
+  pub class : lane.class ≡ settings.class
+  pub in_force : lane.in_force ≡ settings.capacity
+  pub sequence : lane.sequence ≡ 0
+  pub stopped : lane.stopped ≡ false
+
+-- the lane, before and after
+abbrev pub ServedAs : {P C G R : Type 0} → Ports P → Clocks C → GmSettings → GmConfig → ControlLane P C G R → ControlLane P C G R → Type 0
+ServedAs ports clocks settings config old new =
+    ServedSignaling ports clocks settings config old.port new.port old.clock new.clock (control_of old.control) (control_of new.control)
+    new.seat new.tally.sent new.tally.failed new.done new.in_force
+
 -- all lanes did all rounds, between these ports and clocks as they were opened, and as the lanes have them
-pub record LanesServed {P C G R : Type 0} (ports : Ports P) (clocks : Clocks C) (settings : GmSettings) (config : GmConfig) (opened : Opened P C) (lanes : Lanes P C G R) : Type 0 where
+pub record LanesServed {P C G R : Type 0} (ports : Ports P) (clocks : Clocks C) (settings : GmSettings) (config : GmConfig) (opened : Opened P C) (speaking : Option P) (lanes : Lanes P C G R) : Type 0 where
   pub control : ServedSignaling ports clocks settings config opened.p4 lanes.control.port opened.c0 lanes.control.clock
-      lanes.control.seat lanes.control.tally.sent lanes.control.tally.failed
-  pub event : TookDelayReqs ports clocks (all_rounds settings) opened.p5 lanes.event.port opened.c1 lanes.event.clock 0 lanes.event.failed
-  pub first : TurnedOwn clocks settings.senders 0 (all_rounds settings) opened.c2 lanes.sending.first.clock
-  pub second : TurnedOwn clocks settings.senders 1 (all_rounds settings) opened.c3 lanes.sending.second.clock
-  pub third : TurnedOwn clocks settings.senders 2 (all_rounds settings) opened.c4 lanes.sending.third.clock
-  pub fourth : TurnedOwn clocks settings.senders 3 (all_rounds settings) opened.c5 lanes.sending.fourth.clock
+      speaking (control_of lanes.control.control) lanes.control.seat lanes.control.tally.sent lanes.control.tally.failed lanes.control.done lanes.control.in_force
+  pub event : TookDelayReqs ports clocks lanes.event.done opened.p5 lanes.event.port opened.c1 lanes.event.clock 0 lanes.event.failed
+  pub first : TurnedOwn clocks settings.senders 0 lanes.sending.first.done opened.c2 lanes.sending.first.clock
+  pub second : TurnedOwn clocks settings.senders 1 lanes.sending.second.done opened.c3 lanes.sending.second.clock
+  pub third : TurnedOwn clocks settings.senders 2 lanes.sending.third.done opened.c4 lanes.sending.third.clock
+  pub fourth : TurnedOwn clocks settings.senders 3 lanes.sending.fourth.done opened.c5 lanes.sending.fourth.clock
 
 -- the lanes did all rounds, and no seat is left; or a lane was refused its thread, and all is as it was opened
-abbrev pub HasDone : {P C G R : Type 0} → Ports P → Clocks C → GmSettings → GmConfig → Opened P C → Done P C G R → Type 0
-HasDone ports clocks settings config opened (dones.Served lanes seats) = LanesServed ports clocks settings config opened lanes × (seats.items ≡ [])
-HasDone ports clocks settings config opened (dones.Refused back) = back ≡ opened
+abbrev pub HasDone : {P C G R : Type 0} → Ports P → Clocks C → GmSettings → GmConfig → Opened P C → Option (ControlPort P) → Done P C G R → Type 0
+HasDone ports clocks settings config opened control (dones.Served lanes seats) =
+    LanesServed ports clocks settings config opened (control_of control) lanes × (seats.items ≡ [])
+HasDone ports clocks settings config opened control (dones.Refused back control') = (back ≡ opened) × (control' ≡ control)

@@ -72,23 +72,21 @@ impl<T: Drop, Q: Promise<T>> Call<T, Q> {
     }
 }
 
-/// What the lane that takes Delay_Reqs is called for: so many rounds of this lane.
+/// What the lane that takes Delay_Reqs is called for: rounds of this lane.
 #[derive(Drop)]
 pub(crate) struct EventWork<P: Port, C: Clock> {
     pub lane: Snapshot<EventLane<P, C>>,
-    pub rounds: u64,
 }
 
 impl<P: Port, C: Clock> Promise<Called<EventLane<P, C>>> for EventWork<P, C> {
     ghost kept_by = { λ work called. EventKept P.Port C.Clock work called };
 }
 
-/// What a lane that turns tables is called for: so many rounds of this lane, at this position.
+/// What a lane that turns tables is called for: rounds of this lane, at this position.
 #[derive(Drop)]
 pub(crate) struct SendingWork<C: Clock> {
     pub lane: Snapshot<SendingLane<C>>,
     pub position: Position,
-    pub rounds: u64,
 }
 
 impl<C: Clock> Promise<Called<SendingLane<C>>> for SendingWork<C> {

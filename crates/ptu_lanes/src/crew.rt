@@ -5,8 +5,8 @@
 ghost use Rattle.std.specs.Prelude.{◌≡◌, ◌+◌, ◌≤◌, ◌<◌, ℕ, [], IfOk, IfSome};
 ghost use Rattle.ptu_shared.specs.{Blanks.{IsBlankOf}, Opening.{seen_of}, Seats.{no_verdicts}};
 ghost use Rattle.ptu_config.specs.{Limits.{IsGmInRange}, Rounds.{all_rounds}};
-ghost use Rattle.ptu_lanes.specs.Changing.{peak_capacity};
-ghost use Rattle.ptu_lanes.specs.Crew.{AreTurning, CrewCameTo, Ends, EventKept, HasDone, HasLeft, IsAtWork, IsServed, IsTurning, SendingKept, ServedSignaling};
+ghost use Rattle.ptu_lanes.specs.Orders.{may_be_told, peak_ordered};
+ghost use Rattle.ptu_lanes.specs.Crew.{AreTurning, CrewCameTo, Ends, EventKept, HasDone, HasLeft, IsAtWork, IsServed, IsFresh, IsTurning, SendingKept, ServedAs};
 ghost use Rattle.ptu_lanes.specs.{Stretches.{EventLaneDid, HaveTurned}, Waiting.{TurnedOwn}};
 
 use crate::calls::{Call, Called, EventCall, EventWork, SendingCall, SendingCalls, SendingWork};
@@ -14,7 +14,9 @@ use crate::changing::rounds_before_change;
 use crate::lanes::{
     ControlLane, EventLane, Lanes, Position, Rounds, SendingLane, SendingLanes, Tally,
 };
+use crate::orders::ControlPort;
 use crate::service::{Base, Service};
+use ptu_admit::InForce;
 use ptu_config::GmSettings;
 use ptu_outside::{Clock, Meeting, Opened, Port};
 use ptu_shared::{Blanks, Rates, Seat, Shared, TablePorts};
@@ -35,7 +37,7 @@ pub(crate) enum Done<P: Port, C: Clock, G: Ledger, R: Ledger> {
     /// The lanes did all rounds. Beside them are the seats that no lane has: none.
     Served(Lanes<P, C, G, R>, Vec<Seat<G, R>>),
     /// A lane was refused its thread. All is as it was opened.
-    Refused(Opened<P, C>),
+    Refused(Opened<P, C>, Option<ControlPort<P>>),
 }
 
 /// What the lanes of a grandmaster have in common before they serve.
@@ -54,10 +56,10 @@ fn sending_lanes<C: Clock>(c2: C, c3: C, c4: C, c5: C) -> SendingLanes<C>
         × (result.third.clock ≡ c4) × (result.fourth.clock ≡ c5) }
 {
     SendingLanes {
-        first: SendingLane { clock: c2 },
-        second: SendingLane { clock: c3 },
-        third: SendingLane { clock: c4 },
-        fourth: SendingLane { clock: c5 },
+        first: SendingLane { clock: c2, done: 0 },
+        second: SendingLane { clock: c3, done: 0 },
+        third: SendingLane { clock: c4, done: 0 },
+        fourth: SendingLane { clock: c5, done: 0 },
     }
 }
 
@@ -102,12 +104,12 @@ where
     ) -> Called<ControlLane<P, C, G, R>>
         requires range { IsGmInRange settings.now }
         requires ledger { L.parts ≡ 4 }
-        requires most { L.most ≡ peak_capacity settings.now }
+        requires most { L.most ≡ peak_ordered settings.now }
         requires seat { lane.seat ≡ no_verdicts }
         requires tally { (lane.tally.sent ≡ 0) × (lane.tally.failed ≡ 0) }
-        ensures { CrewCameTo (λ new. ServedSignaling P.Port C.Clock settings.now
-            self.now.base.now.config.now lane.port new.port lane.clock new.clock
-            new.seat new.tally.sent new.tally.failed) lane result }
+        requires fresh { IsFresh settings.now lane }
+        ensures { CrewCameTo (ServedAs P.Port C.Clock settings.now
+            self.now.base.now.config.now lane) lane result }
     {
         match self.service() {
             Some(service) => Called::Served(service.take_signaling_all(
@@ -122,7 +124,7 @@ where
     // The call of the lane that takes Delay_Reqs.
     fn call_event<C: Clock>(&self, lane: EventLane<P, C>) -> Called<EventLane<P, C>>
         requires config { self.now.base.now.config.now ≡ L.config }
-        ensures { CrewCameTo (EventLaneDid P.Port C.Clock self.now.rounds.count lane) lane result }
+        ensures { CrewCameTo (λ new. EventLaneDid P.Port C.Clock new.done lane new) lane result }
     {
         match self.service() {
             Some(service) => Called::Served(service.take_part_delay_reqs(&self.rounds, lane)),
@@ -139,7 +141,7 @@ where
         requires config { self.now.base.now.config.now ≡ L.config }
         requires index { (position.index < position.count) × (position.count ≤ 4) }
         ensures { CrewCameTo (λ new. TurnedOwn C.Clock position.count position.index
-            self.now.rounds.count lane.clock new.clock) lane result }
+            new.done lane.clock new.clock) lane result }
     {
         match self.service() {
             Some(service) => {
@@ -186,12 +188,11 @@ where
         lane: EventLane<P, C>,
     ) -> EventCall<P, C>
         requires config { self.now.base.now.config.now ≡ L.config }
-        ensures { IsAtWork (EventLaneDid P.Port C.Clock self.now.rounds.count lane) lane
+        ensures { IsAtWork (λ new. EventLaneDid P.Port C.Clock new.done lane new) lane
             (EventKept P.Port C.Clock) result }
     {
         let work = EventWork {
             lane: Snapshot::of(&lane),
-            rounds: self.rounds.count,
         };
         self.start(
             scope,
@@ -212,8 +213,7 @@ where
     ) -> SendingCall<C>
         requires config { self.now.base.now.config.now ≡ L.config }
         requires index { (position.index < 4) × (1 ≤ position.count) × (position.count ≤ 4) }
-        ensures { IsTurning C.Clock position.count position.index self.now.rounds.count
-            lane result }
+        ensures { IsTurning C.Clock position.count position.index lane result }
     {
         if position.count <= position.index {
             return Call::Here(Called::Idle(lane));
@@ -221,7 +221,6 @@ where
         let work = SendingWork {
             lane: Snapshot::of(&lane),
             position,
-            rounds: self.rounds.count,
         };
         self.start(
             scope,
@@ -243,7 +242,7 @@ where
     ) -> SendingCalls<C>
         requires config { self.now.base.now.config.now ≡ L.config }
         requires count { (1 ≤ count) × (count ≤ 4) }
-        ensures { AreTurning C.Clock count self.now.rounds.count lanes result }
+        ensures { AreTurning C.Clock count lanes result }
     {
         let SendingLanes {
             first,
@@ -264,8 +263,8 @@ where
         &self,
         calls: SendingCalls<C>,
     ) -> Result<SendingLanes<C>, OutOfMemory>
-        ensures { (count rounds : ℕ) (old : SendingLanes C) → AreTurning C.Clock count rounds old
-            calls → IfOk result (HaveTurned C.Clock count rounds old) }
+        ensures { (count : ℕ) (old : SendingLanes C) → AreTurning C.Clock count old
+            calls → IfOk result (HaveTurned C.Clock count old) }
     {
         let SendingCalls {
             first,
@@ -283,7 +282,7 @@ where
 
     // The lanes that were to turn tables, once all have left.
     fn left_sending<C: Clock>(&self, calls: SendingCalls<C>) -> Result<SendingLanes<C>, OutOfMemory>
-        ensures { (count rounds : ℕ) (old : SendingLanes C) → AreTurning C.Clock count rounds old
+        ensures { (count : ℕ) (old : SendingLanes C) → AreTurning C.Clock count old
             calls → IfOk result (λ lanes. lanes ≡ old) }
     {
         let SendingCalls {
@@ -315,7 +314,7 @@ where
         requires granted { IsBlankOf G.name G.parts L.seats blanks.granted }
         requires refused { IsBlankOf R.name R.parts L.seats blanks.refused }
         requires opening { L.opening ≡ settings.now.capacity }
-        requires most { L.most ≡ peak_capacity settings.now }
+        requires most { L.most ≡ peak_ordered settings.now }
         requires seats { L.seats ≡ 1 }
         requires ports { (seen_of P.Port p0 ≡ L.opened 0) × (seen_of P.Port p1 ≡ L.opened 1)
             × (seen_of P.Port p2 ≡ L.opened 2) × (seen_of P.Port p3 ≡ L.opened 3) }
@@ -340,12 +339,13 @@ where
         settings: &GmSettings,
         blanks: Blanks,
         opened: Opened<P, C>,
+        control: Option<ControlPort<P>>,
     ) -> Result<Done<P, C, G, R>, OutOfMemory>
         requires rates { IsBlankOf L.name L.parts 4 blanks.rates }
         requires granted { IsBlankOf G.name G.parts L.seats blanks.granted }
         requires refused { IsBlankOf R.name R.parts L.seats blanks.refused }
         requires opening { L.opening ≡ settings.now.capacity }
-        requires most { L.most ≡ peak_capacity settings.now }
+        requires most { L.most ≡ peak_ordered settings.now }
         requires seats { L.seats ≡ 1 }
         requires ports { (seen_of P.Port opened.p0 ≡ L.opened 0)
             × (seen_of P.Port opened.p1 ≡ L.opened 1) × (seen_of P.Port opened.p2 ≡ L.opened 2)
@@ -355,12 +355,13 @@ where
         requires config { self.now.base.now.config.now ≡ L.config }
         requires rounds { self.now.rounds.count ≡ all_rounds settings.now }
         ensures { IfOk result
-            (HasDone P.Port C.Clock settings.now self.now.base.now.config.now opened) }
+            (HasDone P.Port C.Clock settings.now self.now.base.now.config.now opened control) }
     {
         let event = EventLane {
             port: opened.p5,
             clock: opened.c1,
             failed: 0,
+            done: 0,
         };
         let sending = sending_lanes(opened.c2, opened.c3, opened.c4, opened.c5);
         let event = self.start_event(scope, event);
@@ -368,7 +369,7 @@ where
         if self.gate.get().is_some() {
             let event = event.called(self.base.rt).left()?;
             let sending = self.left_sending(sending)?;
-            return Ok(Done::Refused(Opened {
+            let back = Opened {
                 p5: event.port,
                 c1: event.clock,
                 c2: sending.first.clock,
@@ -376,7 +377,8 @@ where
                 c4: sending.third.clock,
                 c5: sending.fourth.clock,
                 ..opened
-            }));
+            };
+            return Ok(Done::Refused(back, control));
         }
         let (seat, seats) = self.open(
             settings, blanks, opened.p0, opened.p1, opened.p2, opened.p3,
@@ -386,6 +388,12 @@ where
             port: opened.p4,
             clock: opened.c0,
             tally: Tally::default(),
+            control,
+            class: settings.class,
+            in_force: InForce::of(settings.capacity),
+            sequence: 0,
+            done: 0,
+            stopped: false,
         };
         let control = self.call_control(settings, control).served()?;
         let event = event.called(self.base.rt).served()?;
@@ -412,6 +420,7 @@ pub(crate) fn call_all<'a, P, C, L, G, R, W>(
     settings: &GmSettings,
     blanks: Blanks,
     opened: Opened<P, C>,
+    control: Option<ControlPort<P>>,
 ) -> Result<Done<P, C, G, R>, OutOfMemory>
 where
     P: Port + Send,
@@ -424,7 +433,7 @@ where
     requires granted { IsBlankOf G.name G.parts L.seats blanks.granted }
     requires refused { IsBlankOf R.name R.parts L.seats blanks.refused }
     requires opening { L.opening ≡ settings.now.capacity }
-    requires most { L.most ≡ peak_capacity settings.now }
+    requires most { L.most ≡ peak_ordered settings.now }
     requires seats { L.seats ≡ 1 }
     requires ports { (seen_of P.Port opened.p0 ≡ L.opened 0)
         × (seen_of P.Port opened.p1 ≡ L.opened 1) × (seen_of P.Port opened.p2 ≡ L.opened 2)
@@ -432,13 +441,13 @@ where
     requires range { IsGmInRange settings.now }
     requires senders { 1 ≤ settings.now.senders }
     requires config { base.now.config.now ≡ L.config }
-    ensures { IfOk result (HasDone P.Port C.Clock settings.now base.now.config.now opened) }
+    ensures { IfOk result (HasDone P.Port C.Clock settings.now base.now.config.now opened control) }
 {
-    let rounds = Rounds {
-        meeting: Meeting::new(2 + u64::from(settings.senders.get())),
-        count: settings.all_rounds(),
-        early: rounds_before_change(settings),
-    };
+    let rounds = Rounds::new(
+        Meeting::new(2 + u64::from(settings.senders.get())),
+        settings.all_rounds(),
+        rounds_before_change(settings),
+    );
     let crew = Crew {
         base,
         gate,
@@ -454,7 +463,7 @@ where
                 × IsBlankOf G.name G.parts L.seats blanks.granted
                 × IsBlankOf R.name R.parts L.seats blanks.refused
                 × (L.opening ≡ settings.now.capacity)
-                × (L.most ≡ peak_capacity settings.now) × (L.seats ≡ 1)
+                × (L.most ≡ peak_ordered settings.now) × (L.seats ≡ 1)
                 × (seen_of P.Port opened.p0 ≡ L.opened 0)
                 × (seen_of P.Port opened.p1 ≡ L.opened 1)
                 × (seen_of P.Port opened.p2 ≡ L.opened 2)
@@ -464,7 +473,7 @@ where
                 × (crew.now.rounds.count ≡ all_rounds settings.now) }
             ensures { IfOk result
                 (HasDone P.Port C.Clock settings.entry.now crew.entry.now.base.now.config.now
-                opened) }
-        { crew.work(scope, settings, blanks, opened) },
+                opened control) }
+        { crew.work(scope, settings, blanks, opened, control) },
     )
 }

@@ -25,5 +25,5 @@ pub use closing::CloseFault;
 pub use opening::{Blanks, TablePorts};
 pub use rates::Rates;
 pub use seat::Seat;
-pub use shared::Shared;
+pub use shared::{Shared, Standing};
 pub use tally::{PortTally, Tallies};
