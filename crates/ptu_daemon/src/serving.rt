@@ -12,7 +12,7 @@ use crate::closing::{Closing, closing_text};
 use crate::daemon::Daemon;
 use ptu_config::GmSettings;
 use ptu_grandmaster::Gm;
-use ptu_lanes::{Ended, Totals, serve_lanes_within};
+use ptu_lanes::{ControlPort, Ended, Totals, serve_lanes_within};
 use ptu_messages::PortIdentity;
 use ptu_outside::{Clock, DaemonFault, Failed, Host, Opened, Port, Sink, write_whole};
 use ptu_profile::GmConfig;
@@ -22,12 +22,12 @@ use std::sync::Wait;
 use std::thread::Threads;
 
 // The numbers of the last line after these rounds by lanes.
-fn closing_of(settings: &GmSettings, totals: &Totals) -> Closing
-    ensures rounds { result.rounds ≡ all_rounds settings.now }
+fn closing_of(totals: &Totals) -> Closing
+    ensures rounds { result.rounds ≡ totals.now.rounds }
     ensures numbers { numbers_in (said_by result) ≡ numbers_of totals.now }
 {
     Closing {
-        rounds: settings.all_rounds(),
+        rounds: totals.rounds,
         sent: totals.sent,
         failed: totals.failed,
         granted: totals.granted,
@@ -52,6 +52,14 @@ fn config(settings: &GmSettings) -> GmConfig
     }
 }
 
+// The port alone.
+fn port_of<P: Port>(control: Option<ControlPort<P>>) -> Option<P> {
+    match control {
+        Some(control) => Some(control.port),
+        None => None,
+    }
+}
+
 // Serves over these ports and clocks by lanes, with at most so many threads beside this one; or on
 // this thread, as where there are no lanes, where one is refused its thread. Gives them back, with
 // the numbers of the last line.
@@ -61,16 +69,23 @@ fn serve_by_lanes<P: Port + Send, C: Clock + Send, W: Threads + Wait + Sync>(
     threads: usize,
     settings: &GmSettings,
     opened: Opened<P, C>,
-) -> Result<(Opened<P, C>, Closing), OutOfMemory>
+    control: Option<P>,
+) -> Result<(Opened<P, C>, Option<P>, Closing), OutOfMemory>
     requires range { IsGmInRange settings.now }
     requires senders { 1 ≤ settings.now.senders }
     ensures serves { IfOk result (λ r.
         ServesEitherWay P.Port C.Clock settings.now opened r.0 None None (said_by r.1)) }
 {
     let config = config(settings);
-    match serve_lanes_within(rt, alloc, threads, settings, &config, opened)? {
-        Ended::Served(back, totals) => Ok((back, closing_of(settings, &totals))),
-        Ended::Refused(opened) => serve_alone(alloc, settings, opened),
+    let key = settings.control_key.unwrap_or(0);
+    let control = control.map(|port| ControlPort { port, key });
+    match serve_lanes_within(rt, alloc, threads, settings, &config, opened, control)? {
+        Ended::Served(back, control, totals) => {
+            Ok((back, port_of(control), closing_of(&totals)))
+        }
+        Ended::Refused(opened, control) => {
+            serve_rounds(alloc, settings, opened, port_of(control))
+        }
     }
 }
 
@@ -125,24 +140,9 @@ fn serve_rounds<P: Port, C: Clock>(
     Ok((back, control, closing))
 }
 
-// Serves over these ports and clocks on one thread, without a control port. Gives them back, with
-// the numbers of the last line.
-fn serve_alone<P: Port, C: Clock>(
-    alloc: Global,
-    settings: &GmSettings,
-    opened: Opened<P, C>,
-) -> Result<(Opened<P, C>, Closing), OutOfMemory>
-    requires { IsGmInRange settings.now }
-    ensures { IfOk result (λ r.
-        Serves P.Port C.Clock settings.now opened r.0 None None (said_by r.1)) }
-{
-    let (back, _control, closing) = serve_rounds(alloc, settings, opened, None)?;
-    Ok((back, closing))
-}
-
 // Serves over these ports and clocks, and by the control port, where there is one: on one thread or
 // by lanes, with at most so many threads beside this one. Gives them back, with the numbers of the
-// last line. Lanes obey no commands: where there is a control port, one thread does all.
+// last line.
 fn serve_over<P: Port + Send, C: Clock + Send, W: Threads + Wait + Sync>(
     rt: &W,
     alloc: Global,
@@ -157,11 +157,11 @@ fn serve_over<P: Port + Send, C: Clock + Send, W: Threads + Wait + Sync>(
     ensures by_lanes { IfOk result (λ r. 1 ≤ settings.now.senders
         → ServesEitherWay P.Port C.Clock settings.now opened r.0 control r.1 (said_by r.2)) }
 {
-    if settings.senders.get() == 0 || control.is_some() {
-        return serve_rounds(alloc, settings, opened, control);
+    if settings.senders.get() == 0 {
+        serve_rounds(alloc, settings, opened, control)
+    } else {
+        serve_by_lanes(rt, alloc, threads, settings, opened, control)
     }
-    let (back, closing) = serve_by_lanes(rt, alloc, threads, settings, opened)?;
-    Ok((back, None, closing))
 }
 
 // Opens the control port of this number, where there is one.
@@ -266,12 +266,12 @@ pub fn serve_within<W: Threads + Wait + Sync, H: Host, K: Sink>(
 /// of it, behind the turns. What begins with the key and is a command is obeyed, at a new moment of
 /// clock 0 where it changes something, and answered by the control port. A line with the key that
 /// is no command is answered by its cause, and all else by nothing. A `stop` makes its round the
-/// last. What fails at the control port is not counted. Lanes obey no commands: with a control port
-/// all is served on this thread.
+/// last. What fails at the control port is not counted.
 ///
 /// So it is on this thread where `senders` is 0. Else the channels and the tables are served side
 /// by side in each round, by lanes of which `senders` turn the tables, and each lane takes moments
-/// of a clock of its own (`serve_lanes`). Their threads are made before the first datagram is
+/// of a clock of its own (`serve_lanes`). A command that changes something is obeyed between two
+/// rounds then, while no lane is in one. Their threads are made before the first datagram is
 /// taken: where the system refuses one, all is served on this thread, as where `senders` is 0.
 ///
 /// # Errors

@@ -20,5 +20,5 @@ pub use outcome::{Outcome, Outcomes, Taken};
 pub use ptu_gm_messages::{GmReason, Item, Items, asks_of, cancel_of};
 pub use ptu_outside::Reply;
 pub use replying::reply_of;
-pub use resizing::{Changed, send_cancels};
+pub use resizing::{Changed, send_cancels, sequence_after};
 pub use status::GmStatus;

@@ -59,8 +59,8 @@ pub fn send_cancels<P: Port>(port: &mut P, config: &GmConfig, first: u16, shed: 
     sends
 }
 
-// The sequenceId that comes so many after this one.
-fn later(sequence: u16, count: u64) -> u16
+/// The sequenceId that comes so many after this one.
+pub fn sequence_after(sequence: u16, count: u64) -> u16
     ensures { result ≡ (sequence + count) % 65536 }
 {
     sequence.wrapping_add((count % 65536) as u16)
@@ -91,7 +91,7 @@ impl<P: Port> Gm<P> {
         )?;
         let shed = resized.shed;
         let sends = send_cancels(&mut self.reply, &self.config, self.sequence, shed.list());
-        self.sequence = later(self.sequence, sends.sent + sends.failed);
+        self.sequence = sequence_after(self.sequence, sends.sent + sends.failed);
         Ok(Changed {
             at: resized.at,
             shed,

@@ -6,3 +6,4 @@ mod Taking
 mod Stretching
 mod Controlled
 mod Outcomes
+pub mod OrderedRounds

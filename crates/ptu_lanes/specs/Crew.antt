@@ -1,14 +1,15 @@
 -- What comes of lanes that are called in threads of their own, and of a grandmaster that is to be served by them (the project's own
 -- choice).
-use Rattle.std.specs.Prelude.{◌≡◌, ℕ, ◌-◌, ◌^◌, min, [], Ok, IfOk, IfSome}
+use Rattle.std.specs.Prelude.{◌≡◌, ℕ, ◌-◌, ◌^◌, ◌⊎◌, min, false, [], Option, Ok, IfOk, IfSome}
 use Rattle.ptu_outside.specs.declared.{clock.Clock.{Ghosts as Clocks}, opened.Opened.{Opened}, port.Port.{Ghosts as Ports}}
 use Rattle.ptu_outside.specs.Faults.{HasRisen}
 use Rattle.ptu_profile.specs.declared.grandmaster.GmConfig.{GmConfig}
-use Rattle.ptu_shared.specs.{Opening.{HaveFailed}, Seats.{SeatCounts}, Turning.{Turns, after_rounds, all_turns, both_turns}}
-use Rattle.ptu_config.specs.{declared.settings.GmSettings.{GmSettings}, Rounds.{all_rounds}}
+use Rattle.ptu_shared.specs.{Opening.{HaveFailed}, Seats.{SeatCounts}, Turning.{Turns, after_rounds, all_turns, both_turns, no_turns, own_turns}}
+use Rattle.ptu_config.specs.declared.settings.GmSettings.{GmSettings}
+use Rattle.ptu_lanes.specs.declared.orders.ControlPort.{ControlPort}
 use Rattle.ptu_lanes.specs.Served.{ExchangedAll, IsControlled}
-use Rattle.ptu_lanes.specs.{Stretches.{EventLaneDid, SendingLaneDid, TookDelayReqs}, Waiting.{TurnedOwn}}
-use Rattle.ptu_lanes.specs.declared.lanes.{EventLane.{EventLane}, Lanes.{Lanes}, SendingLane.{SendingLane}, SendingLanes.{SendingLanes}}
+use Rattle.ptu_lanes.specs.Stretches.{EventLaneDid, HasTurned, SendingLaneDid, TookDelayReqs, control_of}
+use Rattle.ptu_lanes.specs.declared.lanes.{ControlLane.{ControlLane}, EventLane.{EventLane}, Lanes.{Lanes}, SendingLane.{SendingLane}, SendingLanes.{SendingLanes}}
 use Rattle.ptu_lanes.specs.declared.calls.{Call.{Call}, Called.{Called}, EventWork.{EventWork}, SendingCalls.{SendingCalls}, SendingWork.{SendingWork}}
 use Rattle.ptu_lanes.specs.declared.calls.Call.TheVariants as calls
 use Rattle.ptu_lanes.specs.declared.calls.Called.TheVariants.{Idle, Left, Served}
@@ -46,29 +47,34 @@ HasLeft lane (Idle back) = lane ≡ back
 
 -- what a thread promises of the lane that takes Delay_Reqs, and of one that turns tables
 abbrev pub EventKept : {P C : Type 0} → Ports P → Clocks C → EventWork P C → Called (EventLane P C) → Type 0
-EventKept ports clocks work called = CrewCameTo (EventLaneDid ports clocks work.rounds work.lane.value) work.lane.value called
+EventKept ports clocks work called = CrewCameTo (λ (new : EventLane _ _). EventLaneDid ports clocks new.done work.lane.value new) work.lane.value called
 
 abbrev pub SendingKept : {C L : Type 0} → Clocks C → SendingWork C L → Called (SendingLane C L) → Type 0
-SendingKept clocks work called = CrewCameTo (SendingLaneDid clocks work.rounds work.lane.value) work.lane.value called
+SendingKept clocks work called = CrewCameTo (λ (new : SendingLane _ _). SendingLaneDid clocks new.done work.lane.value new) work.lane.value called
 
 -- ---- all lanes
 
 -- the lane that turns tables is at work so
-abbrev pub IsTurning : {C L : Type 0} → Clocks C → ℕ → SendingLane C L → Call (Called (SendingLane C L)) (SendingWork C L) → Type 0
-IsTurning clocks rounds old call = IsAtWork (SendingLaneDid clocks rounds old) old (SendingKept clocks) call
+abbrev pub IsTurning : {C L : Type 0} → Clocks C → SendingLane C L → Call (Called (SendingLane C L)) (SendingWork C L) → Type 0
+IsTurning clocks old call = IsAtWork (λ (new : SendingLane _ _). SendingLaneDid clocks new.done old new) old (SendingKept clocks) call
 
-pub record AreTurning {C L : Type 0} (clocks : Clocks C) (rounds : ℕ) (old : SendingLanes C L) (calls : SendingCalls C L) : Type 0 where
-  pub first : IsTurning clocks rounds old.first calls.first
-  pub second : IsTurning clocks rounds old.second calls.second
-  pub third : IsTurning clocks rounds old.third calls.third
-  pub fourth : IsTurning clocks rounds old.fourth calls.fourth
+pub record AreTurning {C L : Type 0} (clocks : Clocks C) (old : SendingLanes C L) (calls : SendingCalls C L) : Type 0 where
+  pub first : IsTurning clocks old.first calls.first
+  pub second : IsTurning clocks old.second calls.second
+  pub third : IsTurning clocks old.third calls.third
+  pub fourth : IsTurning clocks old.fourth calls.fourth
 
--- what the lane did that takes Signaling in all rounds, with the change of capacity: its port and its clock, before and after, what
--- its seat has counted, how many datagrams it has counted that were sent, and how many calls of the port failed
-pub record ServedSignaling {P C : Type 0} (ports : Ports P) (clocks : Clocks C) (settings : GmSettings) (config : GmConfig) (port port' : P) (clock clock' : C) (counted : SeatCounts) (gone failures : ℕ) : Type 0 where
+-- what the lane did that takes Signaling in all rounds, with the changes of capacity and the orders: its port, its clock and its control
+-- port, before and after, what its seat has counted, how many datagrams it has counted that were sent, how many calls of the port failed,
+-- how many rounds it did, and the capacity that it put in force last
+pub record ServedSignaling {P C : Type 0} (ports : Ports P) (clocks : Clocks C) (settings : GmSettings) (config : GmConfig) (port port' : P) (clock clock' : C)
+    (speaking speaking' : Option P) (counted : SeatCounts) (gone failures done in_force : ℕ) : Type 0 where
   pub control : ¬ HasRisen (ports.faults port) (ports.faults port') → IfSome (ports.waiting port') (λ left.
       IsControlled ports settings config port port' left counted.granted counted.refused)
   pub exchanged : ExchangedAll ports clocks settings config port port' clock clock' counted.granted counted.refused
+  pub all_done : done ≡ length exchanged.rounds
+  pub spoken : WasSpokenTo ports settings 0 settings.class settings.capacity exchanged.rounds speaking speaking'
+  pub in_force : in_force ≡ capacity_after settings 0 settings.capacity exchanged.rounds
   pub sends : gone ≡ min exchanged.sent (2 ^ 128 - 1)
   pub failed : HaveFailed ports.counts_once failures (ports.faults port) (ports.faults port')
 
@@ -76,19 +82,36 @@ pub record ServedSignaling {P C : Type 0} (ports : Ports P) (clocks : Clocks C) 
 abbrev pub turns_by : {C L : Type 0} → SendingLanes C L → Turns
 turns_by lanes = both_turns lanes.first.turner (both_turns lanes.second.turner (both_turns lanes.third.turner lanes.fourth.turner))
 
--- all lanes did all rounds, between these ports and clocks as they were opened, and as the lanes have them
-pub record LanesServed {P C L G R : Type 0} (ports : Ports P) (clocks : Clocks C) (settings : GmSettings) (config : GmConfig) (opened : Opened P C) (lanes : Lanes P C L G R) : Type 0 where
+-- the lane did so many rounds, if it turns tables
+abbrev pub IsWith : {C L : Type 0} → ℕ → SendingLane C L → Type 0
+IsWith rounds lane = (lane.turner ≡ no_turns) ⊎ (lane.done ≡ rounds)
+
+-- a lane that has done nothing yet
+pub record IsFresh {P C G R : Type 0} (settings : GmSettings) (lane : ControlLane P C G R) : Type 0 where
+  pub done : lane.done ≡ 0
+  pub class : lane.class ≡ settings.class
+  pub in_force : lane.in_force ≡ settings.capacity
+  pub sequence : lane.sequence ≡ 0
+  pub stopped : lane.stopped ≡ false
+
+-- the lane, before and after
+abbrev pub ServedAs : {P C G R : Type 0} → Ports P → Clocks C → GmSettings → GmConfig → ControlLane P C G R → ControlLane P C G R → Type 0
+ServedAs ports clocks settings config old new =
+    ServedSignaling ports clocks settings config old.port new.port old.clock new.clock (control_of old.control) (control_of new.control)
+    new.seat new.tally.sent new.tally.failed new.done new.in_force
+
+-- all lanes did the rounds that they say, between these ports and clocks as they were opened, and as the lanes have them
+pub record LanesServed {P C L G R : Type 0} (ports : Ports P) (clocks : Clocks C) (settings : GmSettings) (config : GmConfig) (opened : Opened P C) (speaking : Option P) (lanes : Lanes P C L G R) : Type 0 where
   pub control : ServedSignaling ports clocks settings config opened.p4 lanes.control.port opened.c0 lanes.control.clock
-      lanes.control.seat lanes.control.tally.sent lanes.control.tally.failed
-  pub event : TookDelayReqs ports clocks (all_rounds settings) opened.p5 lanes.event.port opened.c1 lanes.event.clock 0 lanes.event.failed
-  pub first : TurnedOwn clocks settings.senders 0 (all_rounds settings) opened.c2 lanes.sending.first.clock
-  pub second : TurnedOwn clocks settings.senders 1 (all_rounds settings) opened.c3 lanes.sending.second.clock
-  pub third : TurnedOwn clocks settings.senders 2 (all_rounds settings) opened.c4 lanes.sending.third.clock
-  pub fourth : TurnedOwn clocks settings.senders 3 (all_rounds settings) opened.c5 lanes.sending.fourth.clock
-  -- each table was turned once in each round
-  pub turned : turns_by lanes.sending ≡ after_rounds (all_rounds settings) all_turns
+      speaking (control_of lanes.control.control) lanes.control.seat lanes.control.tally.sent lanes.control.tally.failed lanes.control.done lanes.control.in_force
+  pub event : TookDelayReqs ports clocks lanes.event.done opened.p5 lanes.event.port opened.c1 lanes.event.clock 0 lanes.event.failed
+  pub first : HasTurned clocks lanes.sending.first.done opened.c2 lanes.sending.first.clock (own_turns settings.senders 0 all_turns) lanes.sending.first.turner
+  pub second : HasTurned clocks lanes.sending.second.done opened.c3 lanes.sending.second.clock (own_turns settings.senders 1 all_turns) lanes.sending.second.turner
+  pub third : HasTurned clocks lanes.sending.third.done opened.c4 lanes.sending.third.clock (own_turns settings.senders 2 all_turns) lanes.sending.third.turner
+  pub fourth : HasTurned clocks lanes.sending.fourth.done opened.c5 lanes.sending.fourth.clock (own_turns settings.senders 3 all_turns) lanes.sending.fourth.turner
 
 -- the lanes did all rounds, and no seat is left; or a lane was refused its thread, and all is as it was opened
-abbrev pub HasDone : {P C L G R : Type 0} → Ports P → Clocks C → GmSettings → GmConfig → Opened P C → Done P C L G R → Type 0
-HasDone ports clocks settings config opened (dones.Served lanes seats) = LanesServed ports clocks settings config opened lanes × (seats.items ≡ [])
-HasDone ports clocks settings config opened (dones.Refused back) = back ≡ opened
+abbrev pub HasDone : {P C L G R : Type 0} → Ports P → Clocks C → GmSettings → GmConfig → Opened P C → Option (ControlPort P) → Done P C L G R → Type 0
+HasDone ports clocks settings config opened control (dones.Served lanes seats) =
+    LanesServed ports clocks settings config opened (control_of control) lanes × (seats.items ≡ [])
+HasDone ports clocks settings config opened control (dones.Refused back control') = (back ≡ opened) × (control' ≡ control)

@@ -8,3 +8,4 @@ pub mod Served
 pub mod Crew
 pub mod Ended
 pub mod Samples
+pub mod Orders

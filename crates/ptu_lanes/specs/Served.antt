@@ -1,7 +1,6 @@
 -- What a grandmaster has done that is served by lanes (IEEE 1588-2019 clause 16.1; rounds and the change of capacity are the
 -- project's own choice).
-use Rattle.std.specs.Prelude.{◌≡◌, ℕ, suc, zero, ◌+◌, ◌-◌, ◌*◌, ◌^◌, ◌≤◌, min, true, List, [], ◌++◌, length, map, take, drop, Option, Some, IfNone, IfSome}
-use Rattle.std.specs.List.{All}
+use Rattle.std.specs.Prelude.{◌≡◌, ℕ, suc, zero, ◌+◌, ◌-◌, ◌*◌, ◌^◌, ◌≤◌, min, true, List, [], ◌++◌, Bool, length, map, take, drop, Option, Some, None, IfSome}
 use Rattle.ptu_units.specs.declared.kind.Kind.{Kind}
 use Rattle.ptu_outside.specs.declared.{arrival.Arrival.{Arrival}, clock.Clock.{Ghosts as Clocks}}
 use Rattle.ptu_outside.specs.declared.{opened.Opened.{Opened}, port.Port.{Ghosts as Ports}}
@@ -12,61 +11,54 @@ use Rattle.ptu_shared.specs.{Histories.{SendsLawfully}, Opening.{HaveFailed, See
 use Rattle.ptu_gm_messages.specs.Replies.{cancels_to}
 use Rattle.ptu_config.specs.{declared.settings.GmSettings.{GmSettings}, Rounds.{all_rounds}}
 use Rattle.ptu_outside.specs.{Handed.{WasHanded}, Ports.{HaveRisenBy, HaveRisenJust, WereSent, ports_of, senders_of}}
-use Rattle.ptu_lanes.specs.Rounds.{Exchange, IsAnswered, asks_in, datagrams, grants_in, replies}
+use Rattle.ptu_lanes.specs.Orders.{AreAllLaneRounds, AreLaneRounds, LaneRound, WasSpokenTo, capacity_after, exchanges_in, lane_sends, may_be_told, moments_from}
+use Rattle.ptu_lanes.specs.Rounds.{Exchange, asks_in, datagrams, grants_in, replies}
 use Rattle.ptu_lanes.specs.{Sending.{GoesOn, WasSent}, Waiting.{GaveFirst, MissedFew, PassedBy, Took, TurnedOwn}}
-use Rattle.ptu_lanes.specs.Changing.{change_moments, change_of, early_rounds, peak_capacity, last_capacity}
 use Rattle.ptu_lanes.specs.declared.serving.Totals.{Totals}
 
--- the replies of some exchanges, the CANCELs of these grants, numbered from 0, and the replies of the other exchanges
+-- the replies of some exchanges, the CANCELs of these grants, numbered from 0, and the replies of the other exchanges: what is sent in
+-- rounds without orders
 abbrev pub replies_around : GmConfig → List Exchange → List (Client × Kind) → List Exchange → List Departure
 replies_around config early shed late = replies config early ++ cancels_to config 0 shed ++ replies config late
 
--- What the lane did that takes Signaling, at a port that tells what waits. It took the first 64 datagrams for each round, or all
--- where there are fewer. For each with an item it sent one reply, in order, with an answer for each item; between those of the
--- rounds before the change of capacity and the others it sent the CANCELs of some grants, numbered from 0, where there is a
--- change; and nothing else. The port goes on to tell, unless one of these was such that it may cease to. So many asks were
--- granted, and so many within the profile did not fit.
+-- What the lane did that takes Signaling, at a port that tells what waits, in these rounds. It took the first 64 datagrams for each
+-- round, or all where there are fewer. For each with an item it sent one reply, in order, with an answer for each item; around those of
+-- a round it sent the CANCELs of the grants that a change of the settings or an order sheds, numbered on from 0; and nothing else. The
+-- port goes on to tell, unless one of these was such that it may cease to. So many asks were granted, and so many within the profile
+-- did not fit.
 pub record IsControlled {P : Type 0} (ports : Ports P) (settings : GmSettings) (config : GmConfig) (port port' : P) (left : List Arrival) (granted refused : ℕ) : Type 0 where
   pub waited : List Arrival
   pub all : ports.waiting port ≡ Some waited
-  pub early : List Exchange
-  pub shed : List (Client × Kind)
-  pub late : List Exchange
-  pub early_are : datagrams early ≡ take (64 * early_rounds settings) waited
-  pub all_are : datagrams (early ++ late) ≡ take (64 * all_rounds settings) waited
-  pub rest : left ≡ drop (64 * all_rounds settings) waited
-  pub unchanged : IfNone (change_of settings) (shed ≡ [])
-  pub answered : All (IsAnswered (peak_capacity settings) config) (early ++ late)
-  pub told : WasSent ports port port' (replies_around config early shed late)
-  pub goes_on : GoesOn ports port port' (replies_around config early shed late)
-  pub granted_are : granted ≡ grants_in (early ++ late)
-  pub counted : granted + refused ≡ asks_in config (datagrams (early ++ late))
+  pub rounds : List LaneRound
+  pub are : AreLaneRounds settings config 0 rounds
+  pub ends : AreAllLaneRounds settings (all_rounds settings) rounds
+  pub all_are : datagrams (exchanges_in rounds) ≡ take (64 * length rounds) waited
+  pub rest : left ≡ drop (64 * length rounds) waited
+  pub told : WasSent ports port port' (lane_sends config 0 rounds)
+  pub goes_on : GoesOn ports port port' (lane_sends config 0 rounds)
+  pub granted_are : granted ≡ grants_in (exchanges_in rounds)
+  pub counted : granted + refused ≡ asks_in config (datagrams (exchanges_in rounds))
 
--- Whatever became of that port's count of faults, and whether or not it tells what waits: the lane took at most 64 datagrams for each
--- round, the first that waited where the port still tells that, each at a new moment of its clock, and one moment more for a change
--- of capacity. Each item was decided for the client that its datagram came from. The port was sent, in order, so many of the replies
--- and of the CANCELs of a change, which stand between the replies of the rounds before it and the others; all where its count did not
--- rise. Each other one failed to be sent, and so did one receive a round at most, which ends it; each is a fault, and there are no
--- other faults. So many asks were granted, and so many within the profile did not fit.
+-- Whatever became of that port's count of faults, and whether or not it tells what waits: the lane did these rounds, which are all, or
+-- less where an order was to stop. It took the first datagrams that waited where the port still tells that, each at a new moment of its
+-- clock, and one moment more for each change of the settings and each order that changes something. The port was sent, in order, so many
+-- of the replies and of the CANCELs; all where its count did not rise. Each other one failed to be sent, and so did one receive a round
+-- at most, which ends it; each is a fault, and there are no other faults. So many asks were granted, and so many within the profile did
+-- not fit.
 pub record ExchangedAll {P C : Type 0} (ports : Ports P) (clocks : Clocks C) (settings : GmSettings) (config : GmConfig) (port port' : P) (clock clock' : C) (granted refused : ℕ) : Type 0 where
-  pub early : List Exchange
-  pub shed : List (Client × Kind)
-  pub late : List Exchange
-  pub early_few : length early ≤ 64 * early_rounds settings
-  pub late_few : length late ≤ 64 * (all_rounds settings - early_rounds settings)
-  pub few : length (early ++ late) ≤ 64 * all_rounds settings
-  pub unchanged : IfNone (change_of settings) (shed ≡ [])
-  pub given : IfSome (ports.waiting port') (λ later. ports.waiting port ≡ Some (datagrams (early ++ late) ++ later))
-  pub answered : All (IsAnswered (peak_capacity settings) config) (early ++ late)
-  pub granted_are : granted ≡ grants_in (early ++ late)
-  pub counted : granted + refused ≡ asks_in config (datagrams (early ++ late))
-  pub moments : PassedBy (length (early ++ late) + change_moments settings) (clocks.moments clock) (clocks.moments clock')
+  pub rounds : List LaneRound
+  pub are : AreLaneRounds settings config 0 rounds
+  pub ends : AreAllLaneRounds settings (all_rounds settings) rounds
+  pub given : IfSome (ports.waiting port') (λ later. ports.waiting port ≡ Some (datagrams (exchanges_in rounds) ++ later))
+  pub granted_are : granted ≡ grants_in (exchanges_in rounds)
+  pub counted : granted + refused ≡ asks_in config (datagrams (exchanges_in rounds))
+  pub moments : PassedBy (length (exchanges_in rounds) + moments_from settings 0 rounds) (clocks.moments clock) (clocks.moments clock')
   pub sent : ℕ
-  pub handed : WasHanded ports port port' (replies_around config early shed late) sent
+  pub handed : WasHanded ports port port' (lane_sends config 0 rounds) sent
   pub missed : ℕ
-  pub once : missed ≤ all_rounds settings
+  pub once : missed ≤ length rounds
   pub failed : ℕ
-  pub each : sent + failed ≡ length (replies_around config early shed late) + missed
+  pub each : sent + failed ≡ length (lane_sends config 0 rounds) + missed
   pub failures : HaveFailed ports.counts_once failed (ports.faults port) (ports.faults port')
 
 -- what waits at the port of the table of each index, which only sends
@@ -119,54 +111,57 @@ pub record TablesAreBack {P C : Type 0} (ports : Ports P) (seen : ℕ → Seen) 
   pub failed3 : HaveFailed ports.counts_once of3 (seen 3).faults (ports.faults closed.p3)
 
 -- what each table's port was sent since are, in order, messages of a history of the table
-pub record TablesSentLawfully {P C : Type 0} (ports : Ports P) (config : GmConfig) (seen : ℕ → Seen) (closed : Opened P C) : Type 0 where
-  pub p0 : SendsLawfully ports config 0 (seen 0) (seen_of ports closed.p0)
-  pub p1 : SendsLawfully ports config 1 (seen 1) (seen_of ports closed.p1)
-  pub p2 : SendsLawfully ports config 2 (seen 2) (seen_of ports closed.p2)
-  pub p3 : SendsLawfully ports config 3 (seen 3) (seen_of ports closed.p3)
+pub record TablesSentLawfully {P C : Type 0} (ports : Ports P) (told : Bool) (config : GmConfig) (seen : ℕ → Seen) (closed : Opened P C) : Type 0 where
+  pub p0 : SendsLawfully ports told config 0 (seen 0) (seen_of ports closed.p0)
+  pub p1 : SendsLawfully ports told config 1 (seen 1) (seen_of ports closed.p1)
+  pub p2 : SendsLawfully ports told config 2 (seen 2) (seen_of ports closed.p2)
+  pub p3 : SendsLawfully ports told config 3 (seen 3) (seen_of ports closed.p3)
 
 -- each table was turned so often, by its history
-abbrev pub TablesTurned : {P C : Type 0} {ports : Ports P} {config : GmConfig} {seen : ℕ → Seen} {closed : Opened P C} → TablesSentLawfully ports config seen closed → ℕ → Type 0
+abbrev pub TablesTurned : {P C : Type 0} {ports : Ports P} {told : Bool} {config : GmConfig} {seen : ℕ → Seen} {closed : Opened P C} → TablesSentLawfully ports told config seen closed → ℕ → Type 0
 TablesTurned lawful times =
     (turns_in lawful.p0.parts ≡ times) × (turns_in lawful.p1.parts ≡ times) × (turns_in lawful.p2.parts ≡ times) × (turns_in lawful.p3.parts ≡ times)
 
 -- the same, and the number is how many messages of theirs were sent, with the replies that were sent by port 4; one that would be above
 -- 2^128 - 1 stands there; and each table was turned so often, where that is known
-abbrev pub TablesSent : {P C : Type 0} → Ports P → GmConfig → (ℕ → Seen) → Opened P C → ℕ → ℕ → Turns → Type 0
-TablesSent ports config seen closed replies sent turns =
-    (lawful : TablesSentLawfully ports config seen closed)
+abbrev pub TablesSent : {P C : Type 0} → Ports P → Bool → GmConfig → (ℕ → Seen) → Opened P C → ℕ → ℕ → Turns → Type 0
+TablesSent ports told config seen closed replies sent turns =
+    (lawful : TablesSentLawfully ports told config seen closed)
     × (sent ≡ min (lawful.p0.sent + (lawful.p1.sent + (lawful.p2.sent + (lawful.p3.sent + (replies + 0))))) (2 ^ 128 - 1))
     × IfSome turns.t0 (λ n. turns_in lawful.p0.parts ≡ n) × IfSome turns.t1 (λ n. turns_in lawful.p1.parts ≡ n)
     × IfSome turns.t2 (λ n. turns_in lawful.p2.parts ≡ n) × IfSome turns.t3 (λ n. turns_in lawful.p3.parts ≡ n)
 
 -- between these ports and clocks as they were opened, and as they are to be given back, lanes served a grandmaster of these settings,
--- with these numbers at the end
-pub record ServesByLanes {P C : Type 0} (ports : Ports P) (clocks : Clocks C) (settings : GmSettings) (config : GmConfig) (opened closed : Opened P C) (numbers : Numbers) : Type 0 where
-  -- no more is held at the end than is in force then
-  pub within : numbers.held ≤ last_capacity settings
+-- and by this control port, where there is one, in so many rounds, with these numbers at the end
+pub record ServesByLanes {P C : Type 0} (ports : Ports P) (clocks : Clocks C) (settings : GmSettings) (config : GmConfig) (opened closed : Opened P C)
+    (speaking speaking' : Option P) (rounds : ℕ) (numbers : Numbers) : Type 0 where
   -- where the count of the port of the general channel did not rise, and it tells what waits
   pub control : ¬ HasRisen (ports.faults opened.p4) (ports.faults closed.p4) → IfSome (ports.waiting closed.p4) (λ left.
       IsControlled ports settings config opened.p4 closed.p4 left numbers.granted numbers.refused)
   -- whatever that port did: what was taken there, which was answered so, and counted, and what was sent
   pub exchanged : ExchangedAll ports clocks settings config opened.p4 closed.p4 opened.c0 closed.c0 numbers.granted numbers.refused
+  pub done : rounds ≡ length exchanged.rounds
+  pub spoken : WasSpokenTo ports settings 0 settings.class settings.capacity exchanged.rounds speaking speaking'
+  -- no more is held at the end than is in force then
+  pub within : numbers.held ≤ capacity_after settings 0 settings.capacity exchanged.rounds
   -- likewise the port of the event channel, which was sent nothing, and goes on to tell that
   pub event : ¬ HasRisen (ports.faults opened.p5) (ports.faults closed.p5) →
-      GaveFirst (64 * all_rounds settings) (ports.waiting opened.p5) (ports.waiting closed.p5)
-  pub took : Took ports clocks (64 * all_rounds settings) 0 opened.p5 closed.p5 opened.c1 closed.c1
-  pub missed : MissedFew ports (all_rounds settings) opened.p5 closed.p5
+      GaveFirst (64 * rounds) (ports.waiting opened.p5) (ports.waiting closed.p5)
+  pub took : Took ports clocks (64 * rounds) 0 opened.p5 closed.p5 opened.c1 closed.c1
+  pub missed : MissedFew ports rounds opened.p5 closed.p5
   pub unsent : ports.sent closed.p5 ≡ ports.sent opened.p5
   -- each lane that turns tables took a moment of its clock for each of its tables and each round
-  pub turned0 : TurnedOwn clocks settings.senders 0 (all_rounds settings) opened.c2 closed.c2
-  pub turned1 : TurnedOwn clocks settings.senders 1 (all_rounds settings) opened.c3 closed.c3
-  pub turned2 : TurnedOwn clocks settings.senders 2 (all_rounds settings) opened.c4 closed.c4
-  pub turned3 : TurnedOwn clocks settings.senders 3 (all_rounds settings) opened.c5 closed.c5
+  pub turned0 : TurnedOwn clocks settings.senders 0 rounds opened.c2 closed.c2
+  pub turned1 : TurnedOwn clocks settings.senders 1 rounds opened.c3 closed.c3
+  pub turned2 : TurnedOwn clocks settings.senders 2 rounds opened.c4 closed.c4
+  pub turned3 : TurnedOwn clocks settings.senders 3 rounds opened.c5 closed.c5
   -- the ports of the tables are given back as those of their tables: what waits there is what did
   pub idle : (i : ℕ) → waits_of ports closed i ≡ waits_of ports opened i
   -- and what they were sent are, in order, messages of a history of the table: each to one of its clients, inside a live grant of the
   -- kind, in its own period, and with the sequenceId that is next
-  pub lawful : TablesSentLawfully ports config (seen_at ports opened) closed
+  pub lawful : TablesSentLawfully ports (may_be_told settings) config (seen_at ports opened) closed
   -- in each round each table was turned once, which is when the message of each grant that is due goes
-  pub turned : TablesTurned lawful (all_rounds settings)
+  pub turned : TablesTurned lawful rounds
   -- what was sent is the number of datagrams that ports 0 to 4 were sent, whatever the counts did
   pub sent : CountSends numbers.sent (map ports.sent (senders_of opened)) (map ports.sent (senders_of closed))
   -- what failed is at most what the counts of faults rose by together, and just that where each call that fails counts one fault;

@@ -1,6 +1,6 @@
 -- Several rounds of the lanes.
-use Rattle.std.specs.Prelude.{◌≡◌, ℕ, Bool, ◌+◌, ◌-◌, ◌*◌, ◌^◌, ◌≤◌, min, List, take, drop, Some, IfSome}
-use Rattle.std.specs.List.{All}
+use Rattle.std.specs.Prelude.{◌≡◌, ℕ, Bool, false, ◌+◌, ◌-◌, ◌*◌, ◌%◌, ◌^◌, ◌≤◌, min, List, ◌++◌, length, take, drop, Option, Some, option_map, IfSome}
+use Rattle.std.specs.List.{All, list_any, sum_by}
 use Rattle.ptu_outside.specs.declared.{arrival.Arrival.{Arrival}, clock.Clock.{Ghosts as Clocks}}
 use Rattle.ptu_outside.specs.{declared.port.Port.{Ghosts as Ports}, Faults.{HasNotFallen, HasRisen}}
 use Rattle.ptu_profile.specs.declared.grandmaster.GmConfig.{GmConfig}
@@ -8,7 +8,10 @@ use Rattle.ptu_shared.specs.{Opening.{HaveFailed}, Seats.{SeatCounts}, Turning.{
 use Rattle.ptu_lanes.specs.Rounds.{Exchange, Exchanged, IsAnswered, asks_in, datagrams, grants_in, replies}
 use Rattle.ptu_lanes.specs.{Sending.{GoesOn, WasSent}, Waiting.{GaveFirst, MissedFew, PassedBy, Took, rights}}
 use Rattle.ptu_lanes.specs.declared.lanes.{ControlLane.{ControlLane}, EventLane.{EventLane}}
-use Rattle.ptu_lanes.specs.declared.lanes.{SendingLane.{SendingLane}, SendingLanes.{SendingLanes}}
+use Rattle.ptu_lanes.specs.declared.{lanes.{SendingLane.{SendingLane}, SendingLanes.{SendingLanes}}, orders.ControlPort.{ControlPort}}
+use Rattle.ptu_config.specs.declared.settings.GmSettings.{GmSettings}
+use Rattle.ptu_outside.specs.Handed.{WasHanded}
+use Rattle.ptu_lanes.specs.Orders.{AreAllLaneRounds, AreLaneRounds, LaneRound, WasSpokenTo, cancels_in, capacity_after, class_told, ends_with, exchanges_in, lane_sends, moments_from}
 
 -- so many rounds at a port that tells what waits: the lane took the first 64 datagrams for each round, or all where there are
 -- fewer, and sent one reply for each that has an item, in order, and nothing else; the port goes on to tell, unless a reply
@@ -75,9 +78,44 @@ pub record HasTurned {C : Type 0} (clocks : Clocks C) (rounds : ℕ) (clock cloc
 abbrev pub SendingLaneDid : {C L : Type 0} → Clocks C → ℕ → SendingLane C L → SendingLane C L → Type 0
 SendingLaneDid clocks rounds old new = HasTurned clocks rounds old.clock new.clock old.turner new.turner
 
--- the same of all four
-pub record HaveTurned {C L : Type 0} (clocks : Clocks C) (rounds : ℕ) (old new : SendingLanes C L) : Type 0 where
-  pub first : SendingLaneDid clocks rounds old.first new.first
-  pub second : SendingLaneDid clocks rounds old.second new.second
-  pub third : SendingLaneDid clocks rounds old.third new.third
-  pub fourth : SendingLaneDid clocks rounds old.fourth new.fourth
+-- the lanes that turn tables did the rounds that they say
+pub record HaveTurned {C L : Type 0} (clocks : Clocks C) (old new : SendingLanes C L) : Type 0 where
+  pub first : SendingLaneDid clocks new.first.done old.first new.first
+  pub second : SendingLaneDid clocks new.second.done old.second new.second
+  pub third : SendingLaneDid clocks new.third.done old.third new.third
+  pub fourth : SendingLaneDid clocks new.fourth.done old.fourth new.fourth
+
+-- ---- rounds with orders
+
+-- the control port of a lane, alone
+abbrev pub control_of : {P : Type 0} → Option (ControlPort P) → Option P
+control_of control = option_map (λ (c : ControlPort _). c.port) control
+
+-- what the lane that takes Signaling did in rounds before which there were so many, with the orders that came in them: as in
+-- `TookSignaling`, and the CANCELs of changes and orders stand around the replies of their rounds, numbered on
+pub record LaneDid {P C G R : Type 0} (ports : Ports P) (clocks : Clocks C) (settings : GmSettings) (config : GmConfig) (before : ℕ) (old new : ControlLane P C G R) : Type 0 where
+  pub rounds : List LaneRound
+  pub are : AreLaneRounds settings config before rounds
+  pub done : new.done ≡ old.done + length rounds
+  pub given : IfSome (ports.waiting new.port) (λ later. ports.waiting old.port ≡ Some (datagrams (exchanges_in rounds) ++ later))
+  -- where the count did not rise, each round but the last took 64 datagrams or all that waited
+  pub first : ¬ HasRisen (ports.faults old.port) (ports.faults new.port) → GaveFirst (64 * length rounds) (ports.waiting old.port) (ports.waiting new.port)
+  pub granted : new.seat.granted ≡ old.seat.granted + grants_in (exchanges_in rounds)
+  pub counted : new.seat.granted + new.seat.refused ≡ old.seat.granted + old.seat.refused + asks_in config (datagrams (exchanges_in rounds))
+  pub moments : PassedBy (length (exchanges_in rounds) + moments_from settings before rounds) (clocks.moments old.clock) (clocks.moments new.clock)
+  pub sent : ℕ
+  pub handed : WasHanded ports old.port new.port (lane_sends config old.sequence rounds) sent
+  pub missed : ℕ
+  pub once : missed ≤ length rounds
+  pub failed : ℕ
+  pub each : sent + failed ≡ length (lane_sends config old.sequence rounds) + missed
+  pub failures : CountsFailures ports.counts_once (ports.faults old.port) (ports.faults new.port) old.tally.failed new.tally.failed
+  pub sends : CountsSends old.tally.sent sent new.tally.sent
+  pub no_fall : HasNotFallen (ports.faults old.port) (ports.faults new.port)
+  pub sequence : new.sequence ≡ (old.sequence + sum_by cancels_in rounds) % 65536
+  pub in_force : new.in_force ≡ capacity_after settings before old.in_force rounds
+  pub class : new.class ≡ class_told settings old.class rounds
+  pub spoken : WasSpokenTo ports settings before old.class old.in_force rounds (control_of old.control) (control_of new.control)
+  pub stopped : new.stopped ≡ list_any (ends_with settings) rounds
+  -- an order to stop is the last
+  pub last : (count : ℕ) → (new.stopped ≡ false → count ≡ length rounds) → length rounds ≤ count → AreAllLaneRounds settings count rounds

@@ -73,22 +73,20 @@ impl<T: Drop, Q: Promise<T>> Call<T, Q> {
     }
 }
 
-/// What the lane that takes Delay_Reqs is called for: so many rounds of this lane.
+/// What the lane that takes Delay_Reqs is called for: rounds of this lane.
 #[derive(Drop)]
 pub(crate) struct EventWork<P: Port, C: Clock> {
     pub lane: Snapshot<EventLane<P, C>>,
-    pub rounds: u64,
 }
 
 impl<P: Port, C: Clock> Promise<Called<EventLane<P, C>>> for EventWork<P, C> {
     ghost kept_by = { λ work called. EventKept P.Port C.Clock work called };
 }
 
-/// What a lane that turns tables is called for: so many rounds of this lane.
+/// What a lane that turns tables is called for: rounds of this lane.
 #[derive(Drop)]
 pub(crate) struct SendingWork<C: Clock, L: Rates> {
     pub lane: Snapshot<SendingLane<C, L>>,
-    pub rounds: u64,
 }
 
 impl<C: Clock, L: Rates> Promise<Called<SendingLane<C, L>>> for SendingWork<C, L> {

@@ -5,15 +5,17 @@
 ghost use Rattle.std.specs.Prelude.{◌≡◌, ◌+◌, ◌≤◌, ◌<◌, ℕ, [], IfOk, IfSome};
 ghost use Rattle.ptu_shared.specs.{Blanks.{IsBlankOf}, Opening.{seen_of}, Seats.{no_verdicts}};
 ghost use Rattle.ptu_config.specs.{Limits.{IsGmInRange}, Rounds.{all_rounds}};
-ghost use Rattle.ptu_lanes.specs.Changing.{peak_capacity};
-ghost use Rattle.ptu_lanes.specs.Crew.{AreTurning, CrewCameTo, Ends, EventKept, HasDone, HasLeft, IsAtWork, IsServed, IsTurning, SendingKept, ServedSignaling};
+ghost use Rattle.ptu_lanes.specs.Orders.{may_be_told, peak_ordered};
+ghost use Rattle.ptu_lanes.specs.Crew.{AreTurning, CrewCameTo, Ends, EventKept, HasDone, HasLeft, IsAtWork, IsFresh, IsServed, IsTurning, SendingKept, ServedAs};
 ghost use Rattle.ptu_shared.specs.Turning.{AreTurnBlanks};
 ghost use Rattle.ptu_lanes.specs.Stretches.{EventLaneDid, HaveTurned, SendingLaneDid};
 
 use crate::calls::{Call, Called, EventCall, EventWork, SendingCall, SendingCalls, SendingWork};
 use crate::changing::rounds_before_change;
 use crate::lanes::{ControlLane, EventLane, Lanes, Rounds, SendingLane, SendingLanes};
+use crate::orders::ControlPort;
 use crate::service::{Base, Service};
+use ptu_admit::InForce;
 use ptu_config::GmSettings;
 use ptu_outside::{Clock, Meeting, Opened, Port};
 use ptu_shared::{Blanks, Ledgers, PortTally, Rates, Seat, Shared, TablePorts, Turners};
@@ -34,7 +36,7 @@ pub(crate) enum Done<P: Port, C: Clock, L: Rates, G: Ledger, R: Ledger> {
     /// The lanes did all rounds. Beside them are the seats that no lane has: none.
     Served(Lanes<P, C, L, G, R>, Vec<Seat<G, R>>),
     /// A lane was refused its thread. All is as it was opened.
-    Refused(Opened<P, C>),
+    Refused(Opened<P, C>, Option<ControlPort<P>>),
 }
 
 /// What the lanes of a grandmaster have in common before they serve.
@@ -71,18 +73,22 @@ fn sending_lanes<C: Clock, L: Rates>(
         first: SendingLane {
             clock: c2,
             turner: first,
+            done: 0,
         },
         second: SendingLane {
             clock: c3,
             turner: second,
+            done: 0,
         },
         third: SendingLane {
             clock: c4,
             turner: third,
+            done: 0,
         },
         fourth: SendingLane {
             clock: c5,
             turner: fourth,
+            done: 0,
         },
     }
 }
@@ -129,12 +135,12 @@ where
     ) -> Called<ControlLane<P, C, G, R>>
         requires range { IsGmInRange settings.now }
         requires ledger { L.parts ≡ 4 }
-        requires most { L.most ≡ peak_capacity settings.now }
+        requires most { L.most ≡ peak_ordered settings.now }
         requires seat { lane.seat ≡ no_verdicts }
         requires tally { (lane.tally.sent ≡ 0) × (lane.tally.failed ≡ 0) }
-        ensures { CrewCameTo (λ new. ServedSignaling P.Port C.Clock settings.now
-            self.now.base.now.config.now lane.port new.port lane.clock new.clock
-            new.seat new.tally.sent new.tally.failed) lane result }
+        requires fresh { IsFresh settings.now lane }
+        ensures { CrewCameTo (ServedAs P.Port C.Clock settings.now
+            self.now.base.now.config.now lane) lane result }
     {
         match self.service() {
             Some(service) => Called::Served(service.take_signaling_all(
@@ -149,7 +155,7 @@ where
     // The call of the lane that takes Delay_Reqs.
     fn call_event<C: Clock>(&self, lane: EventLane<P, C>) -> Called<EventLane<P, C>>
         requires config { self.now.base.now.config.now ≡ L.config }
-        ensures { CrewCameTo (EventLaneDid P.Port C.Clock self.now.rounds.count lane) lane result }
+        ensures { CrewCameTo (λ new. EventLaneDid P.Port C.Clock new.done lane new) lane result }
     {
         match self.service() {
             Some(service) => Called::Served(service.take_part_delay_reqs(&self.rounds, lane)),
@@ -160,7 +166,7 @@ where
     // The call of a lane that turns tables.
     fn call_sending<C: Clock>(&self, lane: SendingLane<C, L>) -> Called<SendingLane<C, L>>
         requires { self.now.base.now.config.now ≡ L.config }
-        ensures { CrewCameTo (SendingLaneDid C.Clock self.now.rounds.count lane) lane result }
+        ensures { CrewCameTo (λ new. SendingLaneDid C.Clock new.done lane new) lane result }
     {
         match self.service() {
             Some(service) => Called::Served(service.take_part_turning(&self.rounds, lane)),
@@ -205,12 +211,11 @@ where
         lane: EventLane<P, C>,
     ) -> EventCall<P, C>
         requires config { self.now.base.now.config.now ≡ L.config }
-        ensures { IsAtWork (EventLaneDid P.Port C.Clock self.now.rounds.count lane) lane
+        ensures { IsAtWork (λ new. EventLaneDid P.Port C.Clock new.done lane new) lane
             (EventKept P.Port C.Clock) result }
     {
         let work = EventWork {
             lane: Snapshot::of(&lane),
-            rounds: self.rounds.count,
         };
         self.start(
             scope,
@@ -231,14 +236,13 @@ where
     ) -> SendingCall<C, L>
         requires config { self.now.base.now.config.now ≡ L.config }
         requires index { index < 4 }
-        ensures { IsTurning C.Clock self.now.rounds.count lane result }
+        ensures { IsTurning C.Clock lane result }
     {
         if !lane.turner.may_turn_any() {
             return Call::Here(Called::Idle(lane));
         }
         let work = SendingWork {
             lane: Snapshot::of(&lane),
-            rounds: self.rounds.count,
         };
         self.start(
             scope,
@@ -257,7 +261,7 @@ where
         lanes: SendingLanes<C, L>,
     ) -> SendingCalls<C, L>
         requires { self.now.base.now.config.now ≡ L.config }
-        ensures { AreTurning C.Clock self.now.rounds.count lanes result }
+        ensures { AreTurning C.Clock lanes result }
     {
         let SendingLanes {
             first,
@@ -278,8 +282,8 @@ where
         &self,
         calls: SendingCalls<C, L>,
     ) -> Result<SendingLanes<C, L>, OutOfMemory>
-        ensures { (rounds : ℕ) (old : SendingLanes C L) → AreTurning C.Clock rounds old calls
-            → IfOk result (HaveTurned C.Clock rounds old) }
+        ensures { (old : SendingLanes C L) → AreTurning C.Clock old calls
+            → IfOk result (HaveTurned C.Clock old) }
     {
         let SendingCalls {
             first,
@@ -300,7 +304,7 @@ where
         &self,
         calls: SendingCalls<C, L>,
     ) -> Result<SendingLanes<C, L>, OutOfMemory>
-        ensures { (rounds : ℕ) (old : SendingLanes C L) → AreTurning C.Clock rounds old calls
+        ensures { (old : SendingLanes C L) → AreTurning C.Clock old calls
             → IfOk result (λ lanes. lanes ≡ old) }
     {
         let SendingCalls {
@@ -332,7 +336,7 @@ where
         requires granted { IsBlankOf G.name G.parts L.seats ledgers.granted }
         requires refused { IsBlankOf R.name R.parts L.seats ledgers.refused }
         requires opening { L.opening ≡ settings.now.capacity }
-        requires most { L.most ≡ peak_capacity settings.now }
+        requires most { L.most ≡ peak_ordered settings.now }
         requires seats { L.seats ≡ 1 }
         requires ports { (seen_of P.Port p0 ≡ L.opened 0) × (seen_of P.Port p1 ≡ L.opened 1)
             × (seen_of P.Port p2 ≡ L.opened 2) × (seen_of P.Port p3 ≡ L.opened 3) }
@@ -357,13 +361,14 @@ where
         settings: &GmSettings,
         blanks: Blanks,
         opened: Opened<P, C>,
+        control: Option<ControlPort<P>>,
     ) -> Result<Done<P, C, L, G, R>, OutOfMemory>
         requires rates { IsBlankOf L.name L.parts 4 blanks.rates }
         requires granted { IsBlankOf G.name G.parts L.seats blanks.granted }
         requires refused { IsBlankOf R.name R.parts L.seats blanks.refused }
         requires turns { AreTurnBlanks L.turns blanks.turns }
         requires opening { L.opening ≡ settings.now.capacity }
-        requires most { L.most ≡ peak_capacity settings.now }
+        requires most { L.most ≡ peak_ordered settings.now }
         requires seats { L.seats ≡ 1 }
         requires ports { (seen_of P.Port opened.p0 ≡ L.opened 0)
             × (seen_of P.Port opened.p1 ≡ L.opened 1) × (seen_of P.Port opened.p2 ≡ L.opened 2)
@@ -373,7 +378,7 @@ where
         requires config { self.now.base.now.config.now ≡ L.config }
         requires rounds { self.now.rounds.count ≡ all_rounds settings.now }
         ensures { IfOk result
-            (HasDone P.Port C.Clock settings.now self.now.base.now.config.now opened) }
+            (HasDone P.Port C.Clock settings.now self.now.base.now.config.now opened control) }
     {
         let (ledgers, turner) = blanks.open();
         let turners = turner.share_out(sender_count(settings));
@@ -384,7 +389,7 @@ where
             let event = event.called(self.base.rt).left()?;
             let sending = self.left_sending(sending)?;
             let (_, (c2, c3, c4, c5)) = sending.into_parts();
-            return Ok(Done::Refused(Opened {
+            let back = Opened {
                 p5: event.port,
                 c1: event.clock,
                 c2,
@@ -392,7 +397,8 @@ where
                 c4,
                 c5,
                 ..opened
-            }));
+            };
+            return Ok(Done::Refused(back, control));
         }
         let (seat, seats) = self.open(
             settings, ledgers, opened.p0, opened.p1, opened.p2, opened.p3,
@@ -402,6 +408,12 @@ where
             port: opened.p4,
             clock: opened.c0,
             tally: PortTally::none(),
+            control,
+            class: settings.class,
+            in_force: InForce::of(settings.capacity),
+            sequence: 0,
+            done: 0,
+            stopped: false,
         };
         let control = self.call_control(settings, control).served()?;
         let event = event.called(self.base.rt).served()?;
@@ -428,6 +440,7 @@ pub(crate) fn call_all<'a, P, C, L, G, R, W>(
     settings: &GmSettings,
     blanks: Blanks,
     opened: Opened<P, C>,
+    control: Option<ControlPort<P>>,
 ) -> Result<Done<P, C, L, G, R>, OutOfMemory>
 where
     P: Port + Send,
@@ -441,7 +454,7 @@ where
     requires refused { IsBlankOf R.name R.parts L.seats blanks.refused }
     requires turns { AreTurnBlanks L.turns blanks.turns }
     requires opening { L.opening ≡ settings.now.capacity }
-    requires most { L.most ≡ peak_capacity settings.now }
+    requires most { L.most ≡ peak_ordered settings.now }
     requires seats { L.seats ≡ 1 }
     requires ports { (seen_of P.Port opened.p0 ≡ L.opened 0)
         × (seen_of P.Port opened.p1 ≡ L.opened 1) × (seen_of P.Port opened.p2 ≡ L.opened 2)
@@ -449,13 +462,13 @@ where
     requires range { IsGmInRange settings.now }
     requires senders { 1 ≤ settings.now.senders }
     requires config { base.now.config.now ≡ L.config }
-    ensures { IfOk result (HasDone P.Port C.Clock settings.now base.now.config.now opened) }
+    ensures { IfOk result (HasDone P.Port C.Clock settings.now base.now.config.now opened control) }
 {
-    let rounds = Rounds {
-        meeting: Meeting::new(2 + u64::from(settings.senders.get())),
-        count: settings.all_rounds(),
-        early: rounds_before_change(settings),
-    };
+    let rounds = Rounds::new(
+        Meeting::new(2 + u64::from(settings.senders.get())),
+        settings.all_rounds(),
+        rounds_before_change(settings),
+    );
     let crew = Crew {
         base,
         gate,
@@ -472,7 +485,7 @@ where
                 × IsBlankOf R.name R.parts L.seats blanks.refused
                 × AreTurnBlanks L.turns blanks.turns
                 × (L.opening ≡ settings.now.capacity)
-                × (L.most ≡ peak_capacity settings.now) × (L.seats ≡ 1)
+                × (L.most ≡ peak_ordered settings.now) × (L.seats ≡ 1)
                 × (seen_of P.Port opened.p0 ≡ L.opened 0)
                 × (seen_of P.Port opened.p1 ≡ L.opened 1)
                 × (seen_of P.Port opened.p2 ≡ L.opened 2)
@@ -482,7 +495,7 @@ where
                 × (crew.now.rounds.count ≡ all_rounds settings.now) }
             ensures { IfOk result
                 (HasDone P.Port C.Clock settings.entry.now crew.entry.now.base.now.config.now
-                opened) }
-        { crew.work(scope, settings, blanks, opened) },
+                opened control) }
+        { crew.work(scope, settings, blanks, opened, control) },
     )
 }

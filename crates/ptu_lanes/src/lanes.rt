@@ -2,18 +2,22 @@
 
 ghost use Rattle.std.specs.Prelude.{◌≡◌, ◌+◌, ◌-◌, ◌*◌, ◌^◌, ◌≤◌, ◌<◌, min, Ok, IfOk};
 ghost use Rattle.ptu_shared.specs.Turning.{after_rounds};
-ghost use Rattle.ptu_lanes.specs.Crew.{turns_by};
-ghost use Rattle.ptu_lanes.specs.Stretches.{ControlLaneDid, EventLaneDid, SendingLaneDid};
+ghost use Rattle.ptu_lanes.specs.{Crew.{turns_by}, Orders.{may_be_told, peak_ordered}};
+ghost use Rattle.ptu_lanes.specs.Stretches.{ControlLaneDid, EventLaneDid, LaneDid, SendingLaneDid};
 ghost use Rattle.ptu_lanes.specs.Waiting.{PassedBy, rights};
 
 use crate::delays::delay_round;
+use crate::orders::{ControlPort, Order};
 use crate::service::Service;
 use crate::signaling::control_round;
 use crate::turns::turn_round;
-use ptu_outside::{Clock, Meeting, Port};
+use ptu_admit::InForce;
+use ptu_config::GmSettings;
+use ptu_outside::{Ahead, Clock, Meeting, Port};
 use ptu_shared::{PortTally, Rates, Seat, Turner};
 use ptu_units::{Moment, OutOfMemory};
 use std::sync::Wait;
+use std::sync::atomic::{AtomicU64, Ordering};
 use std::sync::ledger::Ledger;
 
 /// The lane that takes Signaling.
@@ -23,6 +27,18 @@ pub(crate) struct ControlLane<P: Port, C: Clock, G: Ledger, R: Ledger> {
     pub port: P,
     pub clock: C,
     pub tally: PortTally,
+    /// The port by which an operator speaks, where there is one.
+    pub control: Option<ControlPort<P>>,
+    /// The class of the Announces.
+    pub class: u8,
+    /// The capacity that was put in force last.
+    pub in_force: InForce,
+    /// The sequenceId of the next CANCEL.
+    pub sequence: u16,
+    /// How many rounds it did.
+    pub done: u64,
+    /// Whether an order has stopped it.
+    pub stopped: bool,
 }
 
 /// The lane that takes Delay_Reqs, and how many of its receives failed. What the tables' ports are
@@ -32,17 +48,20 @@ pub(crate) struct EventLane<P: Port, C: Clock> {
     pub port: P,
     pub clock: C,
     pub failed: u64,
+    /// How many rounds it did.
+    pub done: u64,
 }
 
 impl<P: Port, C: Clock> EventLane<P, C> {
     /// The lane at this port and clock, before its first round.
     pub(crate) fn new(port: P, clock: C) -> EventLane<P, C>
-        ensures { result ≡ record { port = port; clock = clock; failed = 0 } }
+        ensures { result ≡ record { port = port; clock = clock; failed = 0; done = 0 } }
     {
         EventLane {
             port,
             clock,
             failed: 0,
+            done: 0,
         }
     }
 }
@@ -53,6 +72,8 @@ impl<P: Port, C: Clock> EventLane<P, C> {
 pub(crate) struct SendingLane<C: Clock, L: Rates> {
     pub clock: C,
     pub turner: Turner<L>,
+    /// How many rounds it did.
+    pub done: u64,
 }
 
 /// The lanes that turn tables, of which the first ones are at work.
@@ -91,10 +112,30 @@ pub(crate) struct Rounds {
     pub count: u64,
     /// The number of rounds before the change of capacity, or `None` where there is no change.
     pub early: Option<u64>,
+    // How many receives of the lane that takes Delay_Reqs have failed.
+    missed: AtomicU64,
 }
 
 impl Rounds {
-    /// A lane once it has met the others.
+    /// So many rounds, with this meeting, of which so many come before a change of capacity, where
+    /// there is one.
+    pub(crate) fn new(meeting: Meeting, count: u64, early: Option<u64>) -> Rounds
+        ensures { result.count ≡ count }
+    {
+        Rounds {
+            meeting,
+            count,
+            early,
+            missed: AtomicU64::new(0),
+        }
+    }
+
+    /// How many receives of the lane that takes Delay_Reqs have failed.
+    pub(crate) fn missed(&self) -> u64 {
+        self.missed.load(Ordering::SeqCst)
+    }
+
+    /// A lane once it has met the others, and what comes then.
     ///
     /// # Errors
     /// `OutOfMemory`, with the lane dropped: it or another lane gave up, and it takes part no more.
@@ -102,11 +143,13 @@ impl Rounds {
         &self,
         rt: &impl Wait,
         lane: Result<T, OutOfMemory>,
-    ) -> Result<T, OutOfMemory>
-        ensures { IfOk result (λ new. lane ≡ Ok new) }
+    ) -> Result<(T, Ahead), OutOfMemory>
+        ensures { IfOk result (λ new. lane ≡ Ok new.0) }
     {
-        if lane.is_ok() && self.meeting.meet(rt) {
-            return lane;
+        if let Ok(lane) = lane {
+            if let Some(ahead) = self.meeting.meet(rt) {
+                return Ok((lane, ahead));
+            }
         }
         self.meeting.give_up(rt);
         Err(OutOfMemory)
@@ -116,9 +159,21 @@ impl Rounds {
     // has changed. `OutOfMemory` where another lane gave up.
     fn begin(&self, rt: &impl Wait, before: u64) -> Result<(), OutOfMemory> {
         if self.early == Some(before) {
-            self.met(rt, Ok(()))
-        } else {
-            Ok(())
+            self.met(rt, Ok(()))?;
+        }
+        Ok(())
+    }
+
+    // Whether rounds go on behind a meeting that comes before this: once an order was obeyed.
+    // `OutOfMemory` where another lane gave up.
+    fn goes_on(&self, rt: &impl Wait, ahead: Ahead) -> Result<bool, OutOfMemory> {
+        match ahead {
+            Ahead::Round => Ok(true),
+            Ahead::Order => {
+                self.met(rt, Ok(()))?;
+                Ok(true)
+            }
+            Ahead::End => Ok(false),
         }
     }
 }
@@ -171,6 +226,7 @@ impl<P: Port + Send, L: Rates, G: Ledger, R: Ledger, W: Wait> Service<'_, P, L, 
     {
         let delays = delay_round(self, &mut lane.port, &mut lane.clock)?;
         lane.failed = lane.failed.saturating_add(delays.missed);
+        rounds.missed.store(lane.failed, Ordering::SeqCst);
         self.wait(rounds, &mut lane.port);
         Ok(lane)
     }
@@ -186,25 +242,57 @@ impl<P: Port + Send, L: Rates, G: Ledger, R: Ledger, W: Wait> Service<'_, P, L, 
         lane
     }
 
-    /// So many rounds of the lane that takes Signaling, with a meeting after each.
+    // The lane that takes Signaling behind the meeting of a round, once the order that came in it
+    // is obeyed. The other lanes wait for that where it is not the end.
+    fn obey_any<C: Clock>(
+        &self,
+        rounds: &Rounds,
+        order: Option<Order>,
+        lane: ControlLane<P, C, G, R>,
+    ) -> Result<ControlLane<P, C, G, R>, OutOfMemory> {
+        let mut lane = lane;
+        lane.done = lane.done.saturating_add(1);
+        let Some(order) = order else {
+            return Ok(lane);
+        };
+        let lane = self.obey(order, lane);
+        if order.is_end() {
+            return lane;
+        }
+        let (lane, _) = rounds.met(self.base.rt, lane)?;
+        Ok(lane)
+    }
+
+    /// So many rounds of the lane that takes Signaling, with a meeting after each, or less where an
+    /// order stops it. An order that changes something is obeyed behind the meeting.
     ///
     /// # Errors
     /// `OutOfMemory`, with the lane dropped: after the round in which it or another lane gave up.
     pub(crate) fn take_part_signaling<C: Clock>(
         &self,
+        settings: &GmSettings,
         rounds: &Rounds,
         count: u64,
         lane: ControlLane<P, C, G, R>,
     ) -> Result<ControlLane<P, C, G, R>, OutOfMemory>
-        requires ledger { L.parts ≡ 4 }
-        requires count { count < 2 ^ 42 }
-        requires counts { lane.seat.granted + lane.seat.refused ≤ 2 ^ 54 }
-        ensures { IfOk result
-            (ControlLaneDid P.Port C.Clock L.most self.now.base.now.config.now count lane) }
+        requires ledger { (L.parts ≡ 4) × (L.told ≡ may_be_told settings.now)
+            × (L.most ≡ peak_ordered settings.now) }
+        requires count { lane.done + count < 2 ^ 42 }
+        requires counts { lane.seat.granted + lane.seat.refused ≤ 2048 * lane.done }
+        ensures did { IfOk result (LaneDid P.Port C.Clock settings.now
+            self.now.base.now.config.now lane.done lane) }
+        ensures all { IfOk result (λ new. (new.done ≤ lane.done + count)
+            × (new.stopped ≡ false → new.done ≡ lane.done + count)) }
     {
         let mut lane = lane;
-        for i in 0..count {
-            lane = rounds.met(self.base.rt, self.take_signaling(lane))?;
+        let _ = settings;
+        for _i in 0..count {
+            let taken = self.take_order(rounds, self.take_signaling(lane));
+            let ((next, order), _) = rounds.met(self.base.rt, taken)?;
+            lane = self.obey_any(rounds, order, next)?;
+            if lane.stopped {
+                return Ok(lane);
+            }
         }
         Ok(lane)
     }
@@ -219,12 +307,18 @@ impl<P: Port + Send, L: Rates, G: Ledger, R: Ledger, W: Wait> Service<'_, P, L, 
         lane: EventLane<P, C>,
     ) -> Result<EventLane<P, C>, OutOfMemory>
         requires config { self.now.base.now.config.now ≡ L.config }
-        ensures { IfOk result (EventLaneDid P.Port C.Clock rounds.now.count lane) }
+        requires fresh { lane.done ≡ 0 }
+        ensures did { IfOk result (λ new. EventLaneDid P.Port C.Clock new.done lane new) }
     {
         let mut lane = lane;
         for i in 0..rounds.count {
             rounds.begin(self.base.rt, i)?;
-            lane = rounds.met(self.base.rt, self.take_delay_reqs(rounds, lane))?;
+            let (next, ahead) = rounds.met(self.base.rt, self.take_delay_reqs(rounds, lane))?;
+            lane = next;
+            lane.done = i + 1;
+            if !rounds.goes_on(self.base.rt, ahead)? {
+                break;
+            }
         }
         Ok(lane)
     }
@@ -239,12 +333,17 @@ impl<P: Port + Send, L: Rates, G: Ledger, R: Ledger, W: Wait> Service<'_, P, L, 
         lane: SendingLane<C, L>,
     ) -> Result<SendingLane<C, L>, OutOfMemory>
         requires { self.now.base.now.config.now ≡ L.config }
-        ensures { IfOk result (SendingLaneDid C.Clock rounds.now.count lane) }
+        ensures { IfOk result (λ new. SendingLaneDid C.Clock new.done lane new) }
     {
         let mut lane = lane;
         for i in 0..rounds.count {
             rounds.begin(self.base.rt, i)?;
-            lane = rounds.met(self.base.rt, Ok(self.turn_own(lane)))?;
+            let (next, ahead) = rounds.met(self.base.rt, Ok(self.turn_own(lane)))?;
+            lane = next;
+            lane.done = i + 1;
+            if !rounds.goes_on(self.base.rt, ahead)? {
+                break;
+            }
         }
         Ok(lane)
     }

@@ -3,20 +3,20 @@
 ghost use Rattle.std.specs.Prelude.{◌≡◌, ◌+◌, ◌-◌, ◌^◌, ◌≤◌, ◌<◌, min, [], IfOk};
 ghost use Rattle.ptu_shared.specs.{Blanks.{IsBlankOf}, Opening.{seen_of}};
 ghost use Rattle.ptu_config.specs.Limits.{IsGmInRange};
-ghost use Rattle.ptu_lanes.specs.Changing.{peak_capacity};
 ghost use Rattle.ptu_shared.specs.Turning.{AreTurnBlanks};
+ghost use Rattle.ptu_lanes.specs.Orders.{peak_ordered};
 ghost use Rattle.ptu_lanes.specs.{Crew.{turns_by}, Ended.{HasEnded}, Served.{TablesAreBack, TablesSent}};
 
-use crate::changing::capacity_at_end;
 use crate::crew::{Done, call_all};
-use crate::lanes::Lanes;
+use crate::lanes::{Lanes, SendingLane};
+use crate::orders::ControlPort;
 use crate::service::Base;
 use ptu_admit::Closed;
 use ptu_config::GmSettings;
 use ptu_outside::{Clock, Opened, Port};
 use ptu_profile::GmConfig;
 use ptu_shared::{Blanks, PortTally, Rates, Seat, Shared, Tallies};
-use ptu_units::{Capacity, OutOfMemory};
+use ptu_units::OutOfMemory;
 use std::alloc::Global;
 use std::marker::Brand;
 use std::sync::ledger::Ledger;
@@ -26,6 +26,8 @@ use std::thread::Threads;
 /// What lanes did, at their end.
 #[derive(Clone, Copy)]
 pub struct Totals {
+    /// How many rounds were done.
+    pub rounds: u64,
     /// How many datagrams were sent.
     pub sent: u128,
     /// How many sends and receives failed.
@@ -40,12 +42,13 @@ pub struct Totals {
 
 /// How a grandmaster has ended that was to be served by lanes.
 #[derive(Drop)]
-pub enum Ended<P, C> {
-    /// Lanes did all rounds. Here are the ports and clocks, and the last numbers.
-    Served(Opened<P, C>, Totals),
+pub enum Ended<P: Port, C> {
+    /// Lanes did all rounds, or less where an order stopped them. Here are the ports and clocks, the
+    /// control port, where there is one, and the last numbers.
+    Served(Opened<P, C>, Option<ControlPort<P>>, Totals),
     /// A lane was refused its thread, before the first datagram was taken. Here are the ports and
     /// clocks as they were opened.
-    Refused(Opened<P, C>),
+    Refused(Opened<P, C>, Option<ControlPort<P>>),
 }
 
 // What the ports of the tables were sent, and that of the lane that takes Signaling.
@@ -80,14 +83,32 @@ fn failed_by(tallies: &Tallies, control: u64, event: u64) -> u128
     tables + u128::from(control) + u128::from(event)
 }
 
+// All lanes did as many rounds as the one that takes Signaling. No clause of a meeting says so;
+// another number would be a fault.
+fn are_together<P: Port, C: Clock, L: Rates, G: Ledger, R: Ledger>(
+    lanes: &Lanes<P, C, L, G, R>,
+) -> bool {
+    let done = lanes.control.done;
+    let sending = &lanes.sending;
+    lanes.event.done == done
+        && is_with(&sending.first, done)
+        && is_with(&sending.second, done)
+        && is_with(&sending.third, done)
+        && is_with(&sending.fourth, done)
+}
+
+// The lane did so many rounds, if it turns tables.
+fn is_with<C: Clock, L: Rates>(lane: &SendingLane<C, L>, done: u64) -> bool {
+    !lane.turner.may_turn_any() || lane.done == done
+}
+
 // Closes the tables, and gives back the ports and clocks, with the last numbers. This capacity is
 // in force, since it was put in force last. No clause of a lock says so; another would be a fault.
 fn close<P: Port + Send, C: Clock, L: Rates, G: Ledger, R: Ledger>(
     shared: Shared<P, L, G, R>,
     mut seats: Vec<Seat<G, R>>,
     lanes: Lanes<P, C, L, G, R>,
-    capacity: Capacity,
-) -> Result<(Opened<P, C>, Totals), OutOfMemory>
+) -> Result<(Opened<P, C>, Option<ControlPort<P>>, Totals), OutOfMemory>
     requires ledger { (L.parts ≡ 4) × (L.seats ≡ 1) × (G.parts ≡ 1) × (R.parts ≡ 1) }
     requires seats { seats.items ≡ [] }
     ensures ports { IfOk result (λ r. (r.0.p4 ≡ lanes.control.port) × (r.0.p5 ≡ lanes.event.port)) }
@@ -95,14 +116,17 @@ fn close<P: Port + Send, C: Clock, L: Rates, G: Ledger, R: Ledger>(
         × (r.0.c1 ≡ lanes.event.clock) × (r.0.c2 ≡ lanes.sending.first.clock)
         × (r.0.c3 ≡ lanes.sending.second.clock) × (r.0.c4 ≡ lanes.sending.third.clock)
         × (r.0.c5 ≡ lanes.sending.fourth.clock)) }
-    ensures tables { IfOk result (λ r. TablesAreBack P.Port L.opened r.0 r.1.failed
+    ensures tables { IfOk result (λ r. TablesAreBack P.Port L.opened r.0 r.2.failed
         lanes.control.tally.failed lanes.event.failed) }
-    ensures totals { IfOk result (λ r. (r.1.granted ≡ lanes.control.seat.granted)
-        × (r.1.refused ≡ lanes.control.seat.refused)) }
-    ensures held { IfOk result (λ r. r.1.held ≤ capacity) }
-    ensures sent { IfOk result (λ r. TablesSent P.Port L.config L.opened r.0
-        lanes.control.tally.sent r.1.sent (turns_by lanes.sending)) }
+    ensures totals { IfOk result (λ r. (r.2.granted ≡ lanes.control.seat.granted)
+        × (r.2.refused ≡ lanes.control.seat.refused)) }
+    ensures held { IfOk result (λ r. r.2.held ≤ lanes.control.in_force) }
+    ensures sent { IfOk result (λ r. TablesSent P.Port L.told L.config L.opened r.0
+        lanes.control.tally.sent r.2.sent (turns_by lanes.sending)) }
 {
+    if !are_together(&lanes) {
+        return Err(OutOfMemory);
+    }
     let Lanes {
         control,
         event,
@@ -113,10 +137,11 @@ fn close<P: Port + Send, C: Clock, L: Rates, G: Ledger, R: Ledger>(
     let Ok((closed, tallies)) = shared.close_with_tallies(seats, turner) else {
         unreachable!()
     };
-    if tallies.capacity != capacity.get() {
+    if tallies.capacity != control.in_force.get() {
         return Err(OutOfMemory);
     }
     let totals = Totals {
+        rounds: control.done,
         sent: sent_by(&tallies, control.tally.sent),
         failed: failed_by(&tallies, control.tally.failed, event.failed),
         granted: closed.granted,
@@ -138,7 +163,7 @@ fn close<P: Port + Send, C: Clock, L: Rates, G: Ledger, R: Ledger>(
         c4,
         c5,
     };
-    Ok((back, totals))
+    Ok((back, control.control, totals))
 }
 
 // Serves a grandmaster under these ledgers, with at most so many threads.
@@ -148,6 +173,7 @@ fn serve_under<P, C, L, G, R, W>(
     blanks: Blanks,
     settings: &GmSettings,
     opened: Opened<P, C>,
+    control: Option<ControlPort<P>>,
 ) -> Result<Ended<P, C>, OutOfMemory>
 where
     P: Port + Send,
@@ -161,7 +187,7 @@ where
     requires refused { IsBlankOf R.name R.parts L.seats blanks.refused }
     requires turns { AreTurnBlanks L.turns blanks.turns }
     requires opening { L.opening ≡ settings.now.capacity }
-    requires most { L.most ≡ peak_capacity settings.now }
+    requires most { L.most ≡ peak_ordered settings.now }
     requires seats { L.seats ≡ 1 }
     requires ports { (seen_of P.Port opened.p0 ≡ L.opened 0)
         × (seen_of P.Port opened.p1 ≡ L.opened 1) × (seen_of P.Port opened.p2 ≡ L.opened 2)
@@ -169,21 +195,23 @@ where
     requires range { IsGmInRange settings.now }
     requires senders { 1 ≤ settings.now.senders }
     requires config { base.now.config.now ≡ L.config }
-    ensures { IfOk result (HasEnded P.Port C.Clock settings.now base.now.config.now opened) }
+    ensures { IfOk result (HasEnded P.Port C.Clock settings.now base.now.config.now opened control) }
 {
     let gate = OnceLock::new();
-    let done = call_all::<P, C, L, G, R, W>(base, &gate, threads, settings, blanks, opened)?;
+    let done = call_all::<P, C, L, G, R, W>(
+        base, &gate, threads, settings, blanks, opened, control,
+    )?;
     let (lanes, seats) = match done {
         Done::Served(lanes, seats) => (lanes, seats),
-        Done::Refused(opened) => return Ok(Ended::Refused(opened)),
+        Done::Refused(opened, control) => return Ok(Ended::Refused(opened, control)),
     };
     // The lanes have served at the gate's tables; no clause of a `OnceLock` says that they are
     // there still.
     let Some(Some(shared)) = gate.into_inner() else {
         return Err(OutOfMemory);
     };
-    let (back, totals) = close(shared, seats, lanes, capacity_at_end(settings))?;
-    Ok(Ended::Served(back, totals))
+    let (back, control, totals) = close(shared, seats, lanes)?;
+    Ok(Ended::Served(back, control, totals))
 }
 
 /// Serves a grandmaster as `serve_lanes` does, with at most so many threads beside this one. One
@@ -198,6 +226,7 @@ pub fn serve_lanes_within<P, C, W>(
     settings: &GmSettings,
     config: &GmConfig,
     opened: Opened<P, C>,
+    control: Option<ControlPort<P>>,
 ) -> Result<Ended<P, C>, OutOfMemory>
 where
     P: Port + Send,
@@ -205,22 +234,24 @@ where
     W: Threads + Wait + Sync,
     requires range { IsGmInRange settings.now }
     requires senders { 1 ≤ settings.now.senders }
-    ensures { IfOk result (HasEnded P.Port C.Clock settings.now config.now opened) }
+    ensures { IfOk result (HasEnded P.Port C.Clock settings.now config.now opened control) }
 {
     let base = Base { rt, alloc, config };
     let blanks = Blanks::of_seats(1);
-    serve_under::<P, C, Brand, Brand, Brand, W>(&base, threads, blanks, settings, opened)
+    serve_under::<P, C, Brand, Brand, Brand, W>(&base, threads, blanks, settings, opened, control)
 }
 
 /// Serves a grandmaster of these settings over these ports and clocks, in rounds, by lanes that
 /// work side by side in each round. Lane 0 takes up to 64 datagrams of the general channel and
-/// answers Signaling; lane 1 takes up to 64 of the event channel and answers Delay_Reqs; lane
-/// `2 + i` turns the tables `j` with `j` mod `senders` = `i`. Lane `k` has clock `k`. Lane 0 is on
-/// this thread, and each other has one of its own. All meet after each round. Lane 1 comes last:
+/// answers Signaling, and behind that one datagram of the control port, where there is one; lane 1
+/// takes up to 64 of the event channel and answers Delay_Reqs; lane `2 + i` turns the tables `j` with
+/// `j` mod `senders` = `i`. Lane `k` has clock `k`. Lane 0 is on this thread, and each other has one
+/// of its own. All meet after each round. Lane 1 comes last:
 /// once all others are there, it waits by port 5 until a datagram is there or a message may be due,
 /// and they sleep meanwhile. The round of the number `change_round` begins with a change of the
-/// capacity to `new_capacity` at a moment of clock 0. A send or a receive that fails is counted.
-/// Gives the ports and clocks back, with the last numbers.
+/// capacity to `new_capacity` at a moment of clock 0. An order that changes something is obeyed
+/// behind the meeting of its round, by lane 0, while all others wait; a `stop` ends all. A send or a
+/// receive that fails is counted. Gives the ports and clocks back, with the last numbers.
 ///
 /// All threads are made before the first datagram is taken. Where the system refuses one, or wants
 /// memory for it, no lane serves: no datagram is taken or sent and no moment is taken of a clock,
@@ -234,6 +265,7 @@ pub fn serve_lanes<P, C, W>(
     settings: &GmSettings,
     config: &GmConfig,
     opened: Opened<P, C>,
+    control: Option<ControlPort<P>>,
 ) -> Result<Ended<P, C>, OutOfMemory>
 where
     P: Port + Send,
@@ -241,7 +273,7 @@ where
     W: Threads + Wait + Sync,
     requires range { IsGmInRange settings.now }
     requires senders { 1 ≤ settings.now.senders }
-    ensures { IfOk result (HasEnded P.Port C.Clock settings.now config.now opened) }
+    ensures { IfOk result (HasEnded P.Port C.Clock settings.now config.now opened control) }
 {
-    serve_lanes_within(rt, alloc, usize::MAX, settings, config, opened)
+    serve_lanes_within(rt, alloc, usize::MAX, settings, config, opened, control)
 }

@@ -36,7 +36,7 @@ pub use failed::Failed;
 pub use fault::DaemonFault;
 pub use handing::hand;
 pub use host::Host;
-pub use meeting::Meeting;
+pub use meeting::{Ahead, Meeting};
 pub use mem_clock::MemClock;
 pub use mem_host::MemHost;
 pub use mem_port::MemPort;

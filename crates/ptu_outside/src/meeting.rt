@@ -4,14 +4,27 @@ ghost use Rattle.std.specs.Prelude.{◌≡◌, ◌≤◌};
 
 use std::sync::{Condvar, Mutex, Wait};
 
-// How many lanes take part, how many of these have come, how many meetings are over, and whether a
-// lane has given up.
+/// What comes behind a meeting of lanes.
+#[derive(Clone, Copy, Debug, PartialEq, Eq)]
+pub enum Ahead {
+    /// The next round.
+    Round,
+    /// What one lane does alone, and then one meeting more.
+    Order,
+    /// No round.
+    End,
+}
+
+// How many lanes take part, how many of these have come, how many meetings are over, whether a lane
+// has given up, and what was said to come behind the meeting of this number.
 #[derive(Drop)]
 struct Count {
     lanes: u64,
     come: u64,
     over: u64,
     short: bool,
+    said: Ahead,
+    said_of: u64,
     ghost within: { come ≤ lanes },
 }
 
@@ -32,6 +45,15 @@ impl Count {
     // given up.
     fn lacks_others(&self) -> bool {
         !self.short && 1 < self.lanes - self.come
+    }
+
+    // What comes behind the last meeting.
+    fn ahead(&self) -> Ahead {
+        if self.said_of == self.over {
+            self.said
+        } else {
+            Ahead::Round
+        }
     }
 
     // Ends the meeting where all have come, and says whether it has.
@@ -63,6 +85,8 @@ impl Meeting {
                 come: 0,
                 over: 0,
                 short: false,
+                said: Ahead::Round,
+                said_of: 0,
             }),
             ended: Condvar::new(),
             others_came: Condvar::new(),
@@ -80,8 +104,16 @@ impl Meeting {
         !count.short
     }
 
-    /// Comes, and waits until all have come that take part. Says whether no lane has given up.
-    pub fn meet(&self, rt: &impl Wait) -> bool {
+    /// Says what comes behind the meeting to which this lane comes next. Only one lane may say so.
+    pub fn say(&self, rt: &impl Wait, ahead: Ahead) {
+        let mut count = self.count.lock(rt);
+        count.said = ahead;
+        count.said_of = count.over.saturating_add(1);
+    }
+
+    /// Comes, and waits until all have come that take part. Gives what was said to come then, a
+    /// round where nothing was; or `None` where a lane has given up.
+    pub fn meet(&self, rt: &impl Wait) -> Option<Ahead> {
         let mut count = self.count.lock(rt);
         let before = count.over;
         count.come();
@@ -93,7 +125,11 @@ impl Meeting {
         let count = self
             .ended
             .wait_while(rt, count, |count| count.over <= before);
-        !count.short
+        if count.short {
+            None
+        } else {
+            Some(count.ahead())
+        }
     }
 
     /// Takes part no more, and ends the work of all.

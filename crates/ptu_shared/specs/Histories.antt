@@ -1,6 +1,6 @@
 -- The history of one table, which stands behind a lock, and what its port was sent of it (IEEE 1588-2019 clause 16.1.4; the rule
 -- is the project's own choice).
-use Rattle.std.specs.Prelude.{◌≡◌, ℕ, ◌+◌, ◌-◌, ◌^◌, ◌≤◌, min, false, List, [], ◌∷◌, ◌++◌, length, IfSome, IsTrue, Option}
+use Rattle.std.specs.Prelude.{◌≡◌, ℕ, ◌+◌, ◌-◌, ◌^◌, ◌≤◌, min, Bool, false, List, [], ◌∷◌, ◌++◌, length, IfSome, IsTrue, Option, unwrap_or}
 use Rattle.std.specs.List.{AllByRecursion}
 use Rattle.ptu_units.specs.declared.kind.{Kind.{Kind}, Kind.TheVariants.{Announce, Sync, DelayResp}}
 use Rattle.ptu_messages.specs.declared.header.Header.{Header}
@@ -32,32 +32,43 @@ abbrev pub AllMayFollow : ℕ → List Record → List Record → Type 0
 AllMayFollow j before [] = Unit {0}
 AllMayFollow j before (r ∷ later) = MayFollow j before r × AllMayFollow j (before ++ r ∷ []) later
 
+-- the configuration with a class that was told, where classes may be told, or with its own
+pub record HasClass (told : Bool) (config now : GmConfig) : Type 0 where
+  pub alike : now ≡ record config { class = now.class }
+  pub own : told ≡ false → now ≡ config
+
+-- the configuration by which a table announces that was told this class, if one
+abbrev pub announced_as : Option ℕ → GmConfig → GmConfig
+announced_as class config = record config { class = unwrap_or class config.class }
+
 -- the datagram has the message of the kind to the client at the moment, with the sequenceId that is next after these records; a
 -- Delay_Resp answers some Delay_Req, whose sequenceId it has
-abbrev pub IsMessage : GmConfig → List Record → ℕ → Client → Kind → Departure → Type 0
-IsMessage config before x c Announce sent = sent ≡ departure_of config x (record { client = c; kind = Announce; sequence = sequence_number before c Announce })
-IsMessage config before x c Sync sent = sent ≡ departure_of config x (record { client = c; kind = Sync; sequence = sequence_number before c Sync })
-IsMessage config before x c DelayResp sent = (request : Header) × (sent ≡ response_of config x c request)
+abbrev pub IsMessage : Bool → GmConfig → List Record → ℕ → Client → Kind → Departure → Type 0
+IsMessage told config before x c Announce sent =
+    (now : GmConfig) × HasClass told config now
+    × (sent ≡ departure_of now x (record { client = c; kind = Announce; sequence = sequence_number before c Announce }))
+IsMessage told config before x c Sync sent = sent ≡ departure_of config x (record { client = c; kind = Sync; sequence = sequence_number before c Sync })
+IsMessage told config before x c DelayResp sent = (request : Header) × (sent ≡ response_of config x c request)
 
 -- these are the datagrams of the messages among the records that follow these, in order
-abbrev pub AreMessages : GmConfig → List Record → List Record → List Departure → Type 0
-AreMessages config before [] sent = sent ≡ []
-AreMessages config before (Sent x c k ∷ later) sent =
-    (first : Departure) × (rest : List Departure) × (sent ≡ first ∷ rest) × IsMessage config before x c k first
-    × AreMessages config (before ++ Sent x c k ∷ []) later rest
-AreMessages config before (r ∷ later) sent = AreMessages config (before ++ r ∷ []) later sent
+abbrev pub AreMessages : Bool → GmConfig → List Record → List Record → List Departure → Type 0
+AreMessages told config before [] sent = sent ≡ []
+AreMessages told config before (Sent x c k ∷ later) sent =
+    (first : Departure) × (rest : List Departure) × (sent ≡ first ∷ rest) × IsMessage told config before x c k first
+    × AreMessages told config (before ++ Sent x c k ∷ []) later rest
+AreMessages told config before (r ∷ later) sent = AreMessages told config (before ++ r ∷ []) later sent
 
 -- There is a history of the table, made of decisions, answers to Delay_Reqs and turns, at each of which the message of each grant that
 -- is due is handed to the port. Of its messages the port was sent so many, in order: this was seen of it before, and this after.
 -- Each other message failed to be sent, which is a fault, and there are no other faults: all were sent where its count did not rise.
 -- Then it goes on to tell them, unless one of them was such that it may cease to.
-pub record SendsLawfully {P : Type 0} (ports : Ports P) (config : GmConfig) (j : ℕ) (before after : Seen) : Type 0 where
+pub record SendsLawfully {P : Type 0} (ports : Ports P) (told : Bool) (config : GmConfig) (j : ℕ) (before after : Seen) : Type 0 where
   pub history : List Record
   pub follows : AllMayFollow j [] history
   pub parts : List TablePart
   pub made : IsMadeOf j [] history parts
   pub messages : List Departure
-  pub are : AreMessages config [] history messages
+  pub are : AreMessages told config [] history messages
   pub sent : ℕ
   pub part : SentPart before.sent after.sent before.faults after.faults messages sent
   pub goes_on : ¬ HasRisen before.faults after.faults → AllByRecursion (λ d. ports.ceases_at d ≡ false) messages → TellsOn before.sent after.sent
@@ -67,14 +78,14 @@ pub record SendsLawfully {P : Type 0} (ports : Ports P) (config : GmConfig) (j :
 
 -- so the port was sent since it was opened, of which this was seen then; the count is the number of messages that were sent, and one
 -- that would be above 2^128 - 1 stands there; and the table was turned so often, where that is known
-abbrev pub SendsCounted : {P : Type 0} → Ports P → GmConfig → ℕ → Seen → P → ℕ → Option ℕ → Type 0
-SendsCounted ports config j opened port count turns =
-    (lawful : SendsLawfully ports config j opened (seen_of ports port)) × (count ≡ min lawful.sent (2 ^ 128 - 1))
+abbrev pub SendsCounted : {P : Type 0} → Ports P → Bool → GmConfig → ℕ → Seen → P → ℕ → Option ℕ → Type 0
+SendsCounted ports told config j opened port count turns =
+    (lawful : SendsLawfully ports told config j opened (seen_of ports port)) × (count ≡ min lawful.sent (2 ^ 128 - 1))
     × IfSome turns (λ n. turns_in lawful.parts ≡ n)
 
 -- the table stands for such a history, this is the count of its port, and so often it was turned
-pub record HasHistory {P : Type 0} (ports : Ports P) (config : GmConfig) (j : ℕ) (opened : Seen) (table : Kept P) (count turned : ℕ) : Type 0 where
-  pub lawful : SendsLawfully ports config j opened (seen_of ports table.port)
+pub record HasHistory {P : Type 0} (ports : Ports P) (told : Bool) (config : GmConfig) (j : ℕ) (opened : Seen) (table : Kept P) (count turned : ℕ) : Type 0 where
+  pub lawful : SendsLawfully ports told config j opened (seen_of ports table.port)
   pub counted : count ≡ min lawful.sent (2 ^ 128 - 1)
   pub turns : turns_in lawful.parts ≡ turned
   pub stands : StandsAlone j table lawful.history

@@ -196,10 +196,10 @@ impl<P: Port + Send, L: Rates, G: Ledger, R: Ledger> Shared<P, L, G, R> {
             AreAsOpened P.Port L.opened closed.p0 closed.p1 closed.p2 closed.p3) }
         // What the port of each table was sent are, in order, messages of a history of the table.
         ensures lawful { IfOk result (λ closed.
-            SendsLawfully P.Port L.config 0 (L.opened 0) (seen_of P.Port closed.p0)
-            × SendsLawfully P.Port L.config 1 (L.opened 1) (seen_of P.Port closed.p1)
-            × SendsLawfully P.Port L.config 2 (L.opened 2) (seen_of P.Port closed.p2)
-            × SendsLawfully P.Port L.config 3 (L.opened 3) (seen_of P.Port closed.p3)) }
+            SendsLawfully P.Port L.told L.config 0 (L.opened 0) (seen_of P.Port closed.p0)
+            × SendsLawfully P.Port L.told L.config 1 (L.opened 1) (seen_of P.Port closed.p1)
+            × SendsLawfully P.Port L.told L.config 2 (L.opened 2) (seen_of P.Port closed.p2)
+            × SendsLawfully P.Port L.told L.config 3 (L.opened 3) (seen_of P.Port closed.p3)) }
         ensures fault { IfErr result (λ fault. (fault.seats.items ≡ seats.items)
             × AreUnsettled (record { granted = fault.granted; refused = fault.refused })
             (record { granted = fault.seats_granted; refused = fault.seats_refused }) seats.items) }
@@ -241,10 +241,10 @@ impl<P: Port + Send, L: Rates, G: Ledger, R: Ledger> Shared<P, L, G, R> {
         // What the port of each table was sent are, in order, messages of a history of the table,
         // and so many; and so often it was turned.
         ensures lawful { IfOk result (λ r.
-            SendsCounted P.Port L.config 0 (L.opened 0) r.0.p0 r.1.p0.sent turner.t0
-            × SendsCounted P.Port L.config 1 (L.opened 1) r.0.p1 r.1.p1.sent turner.t1
-            × SendsCounted P.Port L.config 2 (L.opened 2) r.0.p2 r.1.p2.sent turner.t2
-            × SendsCounted P.Port L.config 3 (L.opened 3) r.0.p3 r.1.p3.sent turner.t3) }
+            SendsCounted P.Port L.told L.config 0 (L.opened 0) r.0.p0 r.1.p0.sent turner.t0
+            × SendsCounted P.Port L.told L.config 1 (L.opened 1) r.0.p1 r.1.p1.sent turner.t1
+            × SendsCounted P.Port L.told L.config 2 (L.opened 2) r.0.p2 r.1.p2.sent turner.t2
+            × SendsCounted P.Port L.told L.config 3 (L.opened 3) r.0.p3 r.1.p3.sent turner.t3) }
         ensures fault { IfErr result (λ fault. (fault.seats.items ≡ seats.items)
             × AreUnsettled (record { granted = fault.granted; refused = fault.refused })
             (record { granted = fault.seats_granted; refused = fault.seats_refused }) seats.items) }

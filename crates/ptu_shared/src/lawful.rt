@@ -15,8 +15,9 @@ use crate::opening::Unturned;
 use crate::place::{First, Fourth, Place, Second, Third};
 use crate::rates::Rates;
 use crate::table::Table;
+use crate::tally::PortTally;
 use crate::turning::{TurnBook, TurnsOf, audit_turns};
-use ptu_admit::{Cancelled, Resized, Verdict};
+use ptu_admit::{Cancelled, Live, Resized, Verdict, live_in};
 use ptu_history::Client;
 use ptu_messages::Header;
 use ptu_outside::Port;
@@ -44,8 +45,8 @@ impl<P: Port, L: Rates, J: Place> Model for LawfulTable<P, L, J> {
 
     ghost view = { λ t. t.table.shard };
 
-    ghost invariant = { λ t. HasHistory P.Port L.config J.index (L.opened J.index) t.table.shard
-        t.table.tally.sent t.turned.amount × (t.turned.parts ≡ 1) };
+    ghost invariant = { λ t. HasHistory P.Port L.told L.config J.index (L.opened J.index)
+        t.table.shard t.table.tally.sent t.turned.amount × (t.turned.parts ≡ 1) };
 }
 
 impl<P: Port, L: Rates, J: Place> LawfulTable<P, L, J> {
@@ -111,10 +112,34 @@ impl<P: Port, L: Rates, J: Place> LawfulTable<P, L, J> {
         self.table.shard.next_due(until)
     }
 
+    // From now on its Announces have this clockClass.
+    pub fn set_class(&mut self, class: u8)
+        requires { L.told ≡ true }
+        ensures { self.new ≡ self.old }
+    {
+        self.table.class = Some(class);
+    }
+
+    // The moment that it has reached.
+    pub fn moment(&self) -> Moment
+        ensures { result ≡ self.now.moment }
+    {
+        self.table.shard.moment()
+    }
+
+    // The grants that are live at the moment, with what its port was sent.
+    pub fn live(&self, at: Moment) -> (Live, PortTally)
+        ensures all { HasMore (live_rows at self.now.rows) no_grants result.0 }
+        ensures few { AreFew result.0 }
+        ensures within { result.0.rates ≤ share_of self.now.rows }
+    {
+        (live_in(&self.table.shard, at), self.table.tally)
+    }
+
     // The table, as it is. Its turns are those of the book, where there is one.
     pub fn into_table(self, book: &mut TurnBook<L, J>) -> Table<P, L, J>
-        ensures { SendsCounted P.Port L.config J.index (L.opened J.index) result.shard.port
-            result.tally.sent (option_map (λ b. b.total) book.old) }
+        ensures { SendsCounted P.Port L.told L.config J.index (L.opened J.index)
+            result.shard.port result.tally.sent (option_map (λ b. b.total) book.old) }
     {
         let LawfulTable { table, mut turned } = self;
         audit_turns(book, &mut turned);

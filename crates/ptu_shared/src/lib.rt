@@ -27,6 +27,6 @@ pub use closing::CloseFault;
 pub use opening::{Blanks, Ledgers, TablePorts, TurnBlanks};
 pub use rates::Rates;
 pub use seat::Seat;
-pub use shared::Shared;
+pub use shared::{Shared, Standing};
 pub use tally::{PortTally, Tallies};
 pub use turning::{Turner, Turners};

@@ -1,6 +1,6 @@
 //! The ledger of rates: under the locks the shares of the four tables sum to the total of the book.
 
-ghost use Rattle.std.specs.Prelude.{◌≡◌, ◌<◌, ◌+◌, ℕ};
+ghost use Rattle.std.specs.Prelude.{◌≡◌, ◌<◌, ◌+◌, ℕ, Bool, false};
 ghost use Rattle.ptu_profile.specs.declared.grandmaster.GmConfig.{GmConfig};
 ghost use Rattle.ptu_shared.specs.Opening.{Seen, sample_config, untold_port};
 
@@ -23,6 +23,9 @@ pub trait Rates: Ledger {
     /// The configuration of the grandmaster whose messages the tables send.
     ghost config: { GmConfig };
 
+    /// Whether another class of its Announces may be told.
+    ghost told: { Bool };
+
     /// What is seen of the port of the table of each index when it is opened.
     ghost opened: { ℕ → Seen };
 
@@ -38,6 +41,8 @@ impl Rates for Brand {
     ghost seats = { 0 };
 
     ghost config = { sample_config };
+
+    ghost told = { false };
 
     ghost opened = { λ _. untold_port };
 

@@ -31,13 +31,13 @@ pub fn sample_histories()
     ensures cancel_before_its_message { ¬ AllMayFollow 2 []
         (Granted 0 first_client Sync (pos 0) (seconds 300) ∷ Sent (seconds 2) first_client Sync
         ∷ Ended (seconds 1) first_client Sync ∷ []) }
-    ensures numbers_from_0 { AreMessages sample_config []
+    ensures numbers_from_0 { AreMessages false sample_config []
         (Granted 0 first_client Sync (pos 0) (seconds 300) ∷ Sent (seconds 1) first_client Sync
         ∷ Sent (seconds 2) first_client Sync ∷ [])
         (departure_of sample_config (seconds 1)
         (record { client = first_client; kind = Sync; sequence = 0 })
         ∷ departure_of sample_config (seconds 2)
         (record { client = first_client; kind = Sync; sequence = 1 }) ∷ []) }
-    ensures no_message_is_left_out { ¬ AreMessages sample_config []
+    ensures no_message_is_left_out { ¬ AreMessages false sample_config []
         (Sent (seconds 1) first_client Sync ∷ []) [] }
 {}

@@ -16,8 +16,9 @@ use crate::place::{First, Fourth, Place, Second, Third};
 use crate::rates::Rates;
 use crate::seat::Seat;
 use crate::table::Table;
+use crate::tally::PortTally;
 use crate::turning::{TurnBook, Turner};
-use ptu_admit::{Cancelled, InForce, Resized, Verdict};
+use ptu_admit::{Cancelled, InForce, Live, Resized, Verdict};
 use ptu_history::{Client, table_of};
 use ptu_messages::{Ask, Header};
 use ptu_outside::Port;
@@ -42,6 +43,33 @@ pub struct Shared<P: Port + Send, L: Rates, G: Ledger, R: Ledger> {
     pub(crate) t2: Mutex<LawfulTable<P, L, Third>>,
     pub(crate) t3: Mutex<LawfulTable<P, L, Fourth>>,
     pub(crate) desk: Mutex<Desk<L, G, R>>,
+}
+
+/// How shared tables and their book stand.
+#[derive(Clone, Copy, Debug, PartialEq, Eq)]
+pub struct Standing {
+    /// The greatest moment that they have reached.
+    pub moment: Moment,
+    /// The grants that are live then.
+    pub live: Live,
+    /// How many datagrams the ports of the tables were sent.
+    pub sent: u128,
+    /// How many sends of theirs failed.
+    pub failed: u128,
+    /// The capacity in force, in sixteenths of a message per second.
+    pub capacity: u64,
+    /// How many asks were granted.
+    pub granted: u64,
+    /// How many asks within the profile did not fit.
+    pub refused: u64,
+}
+
+// How many sends of these ports failed.
+fn failures(tallies: &[PortTally; 4]) -> u128 {
+    u128::from(tallies[0].failed)
+        + u128::from(tallies[1].failed)
+        + u128::from(tallies[2].failed)
+        + u128::from(tallies[3].failed)
 }
 
 impl<P: Port + Send, L: Rates, G: Ledger, R: Ledger> Shared<P, L, G, R> {
@@ -317,6 +345,50 @@ impl<P: Port + Send, L: Rates, G: Ledger, R: Ledger> Shared<P, L, G, R> {
             1 => self.t1.lock(rt).answer_delay(config, t, client, request),
             2 => self.t2.lock(rt).answer_delay(config, t, client, request),
             _ => self.t3.lock(rt).answer_delay(config, t, client, request),
+        }
+    }
+
+    /// From now on the Announces of all tables have this clockClass. Each table is told under its
+    /// lock alone.
+    pub fn set_class(&self, rt: &impl Wait, class: u8)
+        requires { L.told ≡ true }
+    {
+        self.t0.lock(rt).set_class(class);
+        self.t1.lock(rt).set_class(class);
+        self.t2.lock(rt).set_class(class);
+        self.t3.lock(rt).set_class(class);
+    }
+
+    // The greatest moment that the tables and the book have reached.
+    fn reached(&self, rt: &impl Wait) -> Moment {
+        let latest = self.desk.lock(rt).book.now();
+        let latest = self.t0.lock(rt).moment().latest(latest);
+        let latest = self.t1.lock(rt).moment().latest(latest);
+        let latest = self.t2.lock(rt).moment().latest(latest);
+        self.t3.lock(rt).moment().latest(latest)
+    }
+
+    /// How all stands at the greatest moment that the tables and the book have reached. Each is
+    /// looked at under its own lock alone: what other threads do meanwhile may count or not.
+    pub fn standing(&self, rt: &impl Wait) -> Standing {
+        let moment = self.reached(rt);
+        let (live0, p0) = self.t0.lock(rt).live(moment);
+        let (live1, p1) = self.t1.lock(rt).live(moment);
+        let (live2, p2) = self.t2.lock(rt).live(moment);
+        let (live3, p3) = self.t3.lock(rt).live(moment);
+        let desk = self.desk.lock(rt);
+        Standing {
+            moment,
+            live: live0.and(live1).and(live2.and(live3)),
+            sent: p0
+                .sent
+                .saturating_add(p1.sent)
+                .saturating_add(p2.sent)
+                .saturating_add(p3.sent),
+            failed: failures(&[p0, p1, p2, p3]),
+            capacity: desk.book.capacity(),
+            granted: desk.granted,
+            refused: desk.refused,
         }
     }
 

@@ -1,7 +1,7 @@
 //! What stands behind the lock of a table: its leases, its part of the ledger of rates, and how
 //! many datagrams its port was sent.
 
-ghost use Rattle.std.specs.Prelude.{◌≡◌, ◌≤◌, ◌+◌, ◌-◌, ◌^◌, ℕ, [], ◌++◌, List, OnErr, OnOk, map, max, min};
+ghost use Rattle.std.specs.Prelude.{◌≡◌, ◌≤◌, ◌+◌, ◌-◌, ◌^◌, ℕ, [], ◌++◌, List, IfSome, OnErr, OnOk, map, max, min, true};
 ghost use Rattle.std.specs.List.Sorted.{IsPermutation};
 ghost use Rattle.ptu_outside.specs.HandsOver.{HandsOver};
 ghost use Rattle.ptu_history.specs.{Client.{table_of}, History.{Record}, Verdict.{Config}};
@@ -10,7 +10,7 @@ ghost use Rattle.ptu_history.specs.Turns.{due_grants, message_of};
 ghost use Rattle.ptu_shard.specs.Answered.{failed_by, met_by, moment_of_answer, responses, sent_by};
 ghost use Rattle.ptu_shard.specs.{Messages.{departure_of, response_of}, Row.{share_of}};
 ghost use Rattle.ptu_shard.specs.{Table.{StandsBeside, StandsFor}, Turn.{due_messages}};
-ghost use Rattle.ptu_shared.specs.{Delays.{IsLaterIfTooSoon}, Opening.{AreCounted, seen_of}};
+ghost use Rattle.ptu_shared.specs.{Delays.{IsLaterIfTooSoon}, Histories.{announced_as}, Opening.{AreCounted, seen_of}};
 
 use crate::place::Place;
 use crate::rates::Rates;
@@ -33,10 +33,13 @@ pub(crate) struct Table<P: Port, L: Rates, J: Place> {
     pub shard: Shard<P>,
     pub part: Share<L>,
     pub tally: PortTally,
+    // The clockClass of its Announces, once one was told.
+    pub class: Option<u8>,
     place: PhantomData<J>,
     ghost one: { part.parts ≡ 1 },
     ghost same: { part.amount ≡ share_of shard.rows },
     ghost own_port: { P.waiting shard.port ≡ (L.opened J.index).waiting },
+    ghost classes: { IfSome class (λ c. L.told ≡ true) },
     ghost failures: { AreCounted P.counts_once tally.failed (L.opened J.index).faults
         (P.faults shard.port) },
 }
@@ -76,6 +79,7 @@ impl<P: Port, L: Rates, J: Place> Table<P, L, J> {
             shard: Shard::new(alloc, port),
             part,
             tally: PortTally::none(),
+            class: None,
             place: PhantomData,
         }
     }
@@ -103,9 +107,10 @@ impl<P: Port, L: Rates, J: Place> Table<P, L, J> {
         ensures at { result.at ≡ max t self.old.shard.moment }
         ensures moment { self.new.shard.moment ≡ result.at }
         ensures sends { HandsOver P.Port self.old.shard.port self.new.shard.port
-            (map (departure_of config.now result.at)
+            (map (departure_of (announced_as self.old.class config.now) result.at)
             (due_messages result.at self.old.shard.rows))
             result.sent result.failed }
+        ensures class { self.new.class ≡ self.old.class }
         ensures sent { self.new.tally.sent
             ≡ min (self.old.tally.sent + result.sent) (2 ^ 128 - 1) }
         ensures messages { (j : ℕ) (history : List Record) →
@@ -118,7 +123,11 @@ impl<P: Port, L: Rates, J: Place> Table<P, L, J> {
             (history ++ (step opened history result.at (Turn j)).records) }
     {
         let _ = table;
-        let turned = self.shard.turn(config, t);
+        let config = GmConfig {
+            class: self.class.unwrap_or(config.class),
+            ..*config
+        };
+        let turned = self.shard.turn(&config, t);
         self.tally = self.tally.plus(turned.sent, turned.failed);
         turned
     }
@@ -162,6 +171,7 @@ impl<P: Port, L: Rates, J: Place> Table<P, L, J> {
             shard,
             part: _,
             tally: _,
+            class: _,
             place: _,
         } = self;
         shard.into_port()

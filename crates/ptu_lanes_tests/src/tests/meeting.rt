@@ -81,7 +81,7 @@ fn lanes_stay_in_step(rt: HostRuntime) -> Result<(), Fail> {
 fn a_lane_that_gives_up_ends_all(rt: HostRuntime) -> Result<(), Fail> {
     let meeting = Meeting::new(2);
     meeting.give_up(&rt);
-    assert!(rt; !meeting.meet(&rt));
+    assert!(rt; meeting.meet(&rt).is_none());
     Ok(())
 }
 
@@ -91,7 +91,7 @@ fn a_lane_that_waits_is_told(rt: HostRuntime) -> Result<(), Fail> {
     let meeting = Meeting::new(2);
     let (goes_on, ()) = join(
         &rt,
-        || meeting.meet(&rt),
+        || meeting.meet(&rt).is_some(),
         || {
             for _ in 0..LOOKS {
                 yield_now();
@@ -126,7 +126,7 @@ fn come_late(rt: &impl Wait, meeting: &Meeting, came: &AtomicU64) -> bool {
         yield_now();
     }
     came.fetch_add(1, Ordering::SeqCst);
-    meeting.meet(rt)
+    meeting.meet(rt).is_some()
 }
 
 // It refuses a lane that goes on before all others have come, and one that ends their meeting
@@ -139,7 +139,7 @@ fn a_lane_awaits_all_others(rt: HostRuntime) -> Result<(), Fail> {
         &rt,
         || {
             let awaited = await_two(&rt, &meeting, &came, &told);
-            let goes_on = meeting.meet(&rt);
+            let goes_on = meeting.meet(&rt).is_some();
             (awaited, goes_on)
         },
         || {
