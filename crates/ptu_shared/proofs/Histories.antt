@@ -1,7 +1,8 @@
 -- The history of one table, from one step under its lock to the next.
-use Rattle.std.proofs.Common.{◌≡◌, ◌∙◌, ℕ, suc, ◌+◌, ◌-◌, ◌^◌, ◌≤◌, max, min, ◌++◌, List, [], ◌∷◌, length, length-append, get_or, map, Bool, true, false, cond, eqb, ◌&&◌, refl, sym, ap, subst, arith, append-nil, append_assoc, Option}
+use Rattle.std.proofs.Common.{◌≡◌, ◌∙◌, ℕ, suc, ◌+◌, ◌-◌, ◌^◌, ◌≤◌, max, min, ◌++◌, List, [], ◌∷◌, length, length-append, get_or, map, Bool, true, false, cond, eqb, ◌&&◌, refl, sym, ap, subst, arith, append-nil, append_assoc, Option, Some, None}
 use Rattle.std.specs.List.{All, AllByRecursion, filter}
-use Rattle.std.proofs.lemmas.Bool.{and_parts, eq-eqb, eqb-true}
+use Rattle.std.specs.Prelude.{is_some}
+use Rattle.std.proofs.lemmas.Bool.{and_parts, eq-eqb, eqb-true, false≢true}
 use Rattle.std.proofs.lemmas.List.Elements.{All-head, All-tail, All-weaker, filter_passes}
 use Rattle.std.proofs.lemmas.List.Sorted.{All-permutation}
 use Rattle.ptu_units.specs.declared.kind.{Kind.{Kind}, Kind.TheVariants.{Announce, Sync, DelayResp}}
@@ -26,7 +27,7 @@ use Rattle.ptu_profile.specs.declared.grandmaster.GmConfig.{GmConfig}
 use Rattle.ptu_shard.specs.{Answered.{responses}, Messages.{departure_of, response_of}, Table.{Kept, StandsBeside, StandsFor}, Turn.{due_messages}}
 use Rattle.ptu_admit.specs.Alone.{AreDecisionsFrom, GoesOnAlone, StandsAlone}
 use Rattle.ptu_outside.specs.Handed.{SentPart}
-use Rattle.ptu_shared.specs.{Histories.{AllMayFollow, AreMessages, HasHistory, IsMessage}, Opening.{HaveFailed, Seen, seen_of}}
+use Rattle.ptu_shared.specs.{Histories.{AllMayFollow, AreMessages, HasClass, HasHistory, IsMessage, announced_as}, Opening.{HaveFailed, Seen, seen_of}}
 use Rattle.ptu_shared.specs.Turning.{IsDecision, IsMadeOf, IsPart, TablePart, turns_in}
 use Rattle.ptu_shared.specs.Turning.{TablePart.Decided as DecidedPart, TablePart.DelayReq as DelayReqPart, TablePart.Turn as TurnPart}
 use Rattle.ptu_shared.proofs.Failing.{failed-append, failed_hands, failed_none}
@@ -69,13 +70,13 @@ are_decisions j from (Shed n c k ∷ rs) are = (tt, are_decisions j from rs are.
 are_decisions j from (Looked n i ∷ rs) are = absurd are.0
 are_decisions j from (Sent n c k ∷ rs) are = absurd are.0
 
-module _ (config : GmConfig) where
-  shift : (before xs ys : List Record) (r : Record) (es : List Departure) → AreMessages config (before ++ r ∷ xs) ys es → AreMessages config ((before ++ r ∷ []) ++ xs) ys es
-  shift before xs ys r es b = subst (λ h. AreMessages config h ys es) (sym (append_assoc before (r ∷ []) xs)) b
+module _ (told : Bool) (config : GmConfig) where
+  shift : (before xs ys : List Record) (r : Record) (es : List Departure) → AreMessages told config (before ++ r ∷ xs) ys es → AreMessages told config ((before ++ r ∷ []) ++ xs) ys es
+  shift before xs ys r es b = subst (λ h. AreMessages told config h ys es) (sym (append_assoc before (r ∷ []) xs)) b
 
-  messages-append : (before xs ys : List Record) (ds es : List Departure) → AreMessages config before xs ds → AreMessages config (before ++ xs) ys es → AreMessages config before (xs ++ ys) (ds ++ es)
+  messages-append : (before xs ys : List Record) (ds es : List Departure) → AreMessages told config before xs ds → AreMessages told config (before ++ xs) ys es → AreMessages told config before (xs ++ ys) (ds ++ es)
   messages-append before [] ys ds es a b =
-      subst (λ l. AreMessages config before ys (l ++ es)) (sym a) (subst (λ h. AreMessages config h ys es) (append-nil before) b)
+      subst (λ l. AreMessages told config before ys (l ++ es)) (sym a) (subst (λ h. AreMessages told config h ys es) (append-nil before) b)
   messages-append before (Granted n c k l u ∷ xs) ys ds es a b = messages-append (before ++ Granted n c k l u ∷ []) xs ys ds es a (shift before xs ys (Granted n c k l u) es b)
   messages-append before (Short n c ∷ xs) ys ds es a b = messages-append (before ++ Short n c ∷ []) xs ys ds es a (shift before xs ys (Short n c) es b)
   messages-append before (Ended n c k ∷ xs) ys ds es a b = messages-append (before ++ Ended n c k ∷ []) xs ys ds es a (shift before xs ys (Ended n c k) es b)
@@ -111,11 +112,11 @@ sent_none-push : (history : List Record) (r : Record) (c : Client) (k : Kind) �
 unfolding last_sent
 sent_none-push history r c k none = greatest_by-push (sent_part c k) history r ∙ (omega (arith, none))
 
-module _ (config : GmConfig) (j from : ℕ) where
+module _ (told : Bool) (config : GmConfig) (j from : ℕ) where
   past_more : (before : List Record) (r : Record) → ((c : Client) (k : Kind) → sent_part c k r ≡ 0) → AreSentBy j from before → AreSentBy j from (before ++ r ∷ [])
   past_more before r none past c k own = let le : last_sent before c k ≤ from = past c k own in omega (arith, le, sent_none-push before r c k (none c k))
 
-  decisions_follow : (before more : List Record) → AreSentBy j from before → AreDecisionsFrom j from more → AllMayFollow j before more × AreMessages config before more []
+  decisions_follow : (before more : List Record) → AreSentBy j from before → AreDecisionsFrom j from more → AllMayFollow j before more × AreMessages told config before more []
   decisions_follow before [] past are = (tt, refl)
   decisions_follow before (Granted n c k l u ∷ more) past (is, later) =
       let all = decisions_follow (before ++ Granted n c k l u ∷ []) more (past_more before (Granted n c k l u) (λ d i. refl) past) later in
@@ -140,7 +141,12 @@ module _ (config : GmConfig) (j from : ℕ) where
 
 -- ---- a turn
 
-module _ (config : GmConfig) (history : List Record) (x j : ℕ) where
+-- the table's configuration has the class that the table was told, which is none where none may be told
+pub class_is : (told : Bool) (class : Option ℕ) (config : GmConfig) → (is_some class ≡ true → told ≡ true) → HasClass told config (announced_as class config)
+class_is told None config may = record { alike = refl; own = λ none. refl }
+class_is told (Some c) config may = record { alike = refl; own = λ none. absurd (false≢true (sym none ∙ may refl)) }
+
+module _ (told : Bool) (config now : GmConfig) (class : HasClass told config now) (history : List Record) (x j : ℕ) where
   -- the grant's message is lawful behind these records, and has the number that it had in the history
   abbrev IsNext : List Record → Grant → Type 0
   IsNext before g =
@@ -152,18 +158,20 @@ module _ (config : GmConfig) (history : List Record) (x j : ℕ) where
   next_kept before r g is number next = (next.0, next.1, is ∙ next.2, number ∙ next.3)
 
   of_kind : (before : List Record) (c : Client) (k : Kind) → is_turned k ≡ true → sequence_number before c k ≡ sequence_number history c k →
-      IsMessage config before x c k (departure_of config x (record { client = c; kind = k; sequence = sequence_number history c k }))
-  of_kind before c Announce turned number = ap (λ s. departure_of config x (record { client = c; kind = Announce; sequence = s })) (sym number)
-  of_kind before c Sync turned number = ap (λ s. departure_of config x (record { client = c; kind = Sync; sequence = s })) (sym number)
+      IsMessage told config before x c k (departure_of now x (record { client = c; kind = k; sequence = sequence_number history c k }))
+  of_kind before c Announce turned number = (now, class, ap (λ s. departure_of now x (record { client = c; kind = Announce; sequence = s })) (sym number))
+  of_kind before c Sync turned number =
+      ap (λ g. departure_of g x (record { client = c; kind = Sync; sequence = sequence_number history c Sync })) class.alike
+      ∙ ap (λ s. departure_of config x (record { client = c; kind = Sync; sequence = s })) (sym number)
   of_kind before c DelayResp turned number = absurd (cc)
 
   messages_follow : (gs : List Grant) (before : List Record) → All (IsNext before) gs → IsDistinctByLease gs →
-      AllMayFollow j before (map (sent_record x) gs) × AreMessages config before (map (sent_record x) gs) (map (departure_of config x) (map (message_of history) gs))
+      AllMayFollow j before (map (sent_record x) gs) × AreMessages told config before (map (sent_record x) gs) (map (departure_of now x) (map (message_of history) gs))
   messages_follow [] before all distinct = (tt, refl)
   messages_follow (g ∷ gs) before all distinct =
       let first : IsNext before g = All-head (IsNext before) g gs all in
       let later : AllMayFollow j (before ++ sent_record x g ∷ []) (map (sent_record x) gs)
-      × AreMessages config (before ++ sent_record x g ∷ []) (map (sent_record x) gs) (map (departure_of config x) (map (message_of history) gs)) =
+      × AreMessages told config (before ++ sent_record x g ∷ []) (map (sent_record x) gs) (map (departure_of now x) (map (message_of history) gs)) =
       messages_follow gs (before ++ sent_record x g ∷ [])
       (λ i d lt.
       let h : Grant = get_or gs i d in
@@ -172,7 +180,7 @@ module _ (config : GmConfig) (history : List Record) (x j : ℕ) where
       (All-tail (IsNext before) g gs all i d lt))
       (λ i j d before within. distinct (suc i) (suc j) d (omega arith) (omega arith)) in (
         ((first.1, first.2), later.0),
-        (departure_of config x (message_of history g), map (departure_of config x) (map (message_of history) gs), refl, of_kind before g.client g.kind first.0 first.3, later.1),
+        (departure_of now x (message_of history g), map (departure_of now x) (map (message_of history) gs), refl, of_kind before g.client g.kind first.0 first.3, later.1),
       )
 
   due_next : All (IsNext history) (due_grants history x j)
@@ -188,7 +196,7 @@ module _ (config : GmConfig) (history : List Record) (x j : ℕ) where
       (filter (is_due history x j) (live_grants history x)) (filter_passes (is_due history x j) (live_grants history x)))
 
   turn_follows : AllMayFollow j history (Looked x j ∷ map (sent_record x) (due_grants history x j))
-      × AreMessages config history (Looked x j ∷ map (sent_record x) (due_grants history x j)) (map (departure_of config x) (map (message_of history) (due_grants history x j)))
+      × AreMessages told config history (Looked x j ∷ map (sent_record x) (due_grants history x j)) (map (departure_of now x) (map (message_of history) (due_grants history x j)))
   turn_follows =
       let all = messages_follow (due_grants history x j) (history ++ Looked x j ∷ [])
       (All-weaker (IsNext history) (IsNext (history ++ Looked x j ∷ []))
@@ -198,10 +206,10 @@ module _ (config : GmConfig) (history : List Record) (x j : ℕ) where
 
 -- ---- an answer to a Delay_Req
 
-module _ (config : GmConfig) (history : List Record) (x : ℕ) (c : Client) (request : Header) where
+module _ (told : Bool) (config : GmConfig) (history : List Record) (x : ℕ) (c : Client) (request : Header) where
   answer_follows : (a : Answer) → (a ≡ Answered → lawful (history ++ Looked x (table_of c) ∷ []) x c DelayResp ≡ true) →
       AllMayFollow (table_of c) history (Looked x (table_of c) ∷ answer_records x c a)
-      × AreMessages config history (Looked x (table_of c) ∷ answer_records x c a) (responses a (response_of config x c request))
+      × AreMessages told config history (Looked x (table_of c) ∷ answer_records x c a) (responses a (response_of config x c request))
   answer_follows Answered may =
       ((refl, ((refl, may refl), tt)), (response_of config x c request, [], refl, (request, refl), refl))
   answer_follows NoGrant may = ((refl, tt), refl)
@@ -223,11 +231,11 @@ part_both opened old new x y z ds es sent more first second p q = record {
 
 -- ---- the table with its history
 
-module _ {P : Type 0} (ports : Ports P) (config : GmConfig) (j : ℕ) (opened : Seen) (old new : Kept P) (count turned : ℕ) (has : HasHistory ports config j opened old count turned) where
+module _ {P : Type 0} (ports : Ports P) (told : Bool) (config : GmConfig) (j : ℕ) (opened : Seen) (old new : Kept P) (count turned : ℕ) (has : HasHistory ports told config j opened old count turned) where
   -- it goes on with records that may follow, whose messages were handed to the port
   goes_on : (more : List Record) (part : TablePart) (messages : List Departure) (sent failed : ℕ) → AllMayFollow j has.lawful.history more → IsPart j has.lawful.history more part →
-      AreMessages config has.lawful.history more messages → HandsOver ports old.port new.port messages sent failed → StandsAlone j new (has.lawful.history ++ more) →
-      HasHistory ports config j opened new (min (count + sent) (2 ^ 128 - 1)) (turned + turns_in (part ∷ []))
+      AreMessages told config has.lawful.history more messages → HandsOver ports old.port new.port messages sent failed → StandsAlone j new (has.lawful.history ++ more) →
+      HasHistory ports told config j opened new (min (count + sent) (2 ^ 128 - 1)) (turned + turns_in (part ∷ []))
   goes_on more part messages sent failed follow is_part are hands stands =
       let so_far = has.lawful in
       record {
@@ -237,7 +245,7 @@ module _ {P : Type 0} (ports : Ports P) (config : GmConfig) (j : ℕ) (opened : 
           parts = so_far.parts ++ part ∷ [];
           made = made-append j [] so_far.history more so_far.parts part so_far.made is_part;
           messages = so_far.messages ++ messages;
-          are = messages-append config [] so_far.history more so_far.messages messages so_far.are are;
+          are = messages-append told config [] so_far.history more so_far.messages messages so_far.are are;
           sent = so_far.sent + sent;
           part = part_both opened.sent (ports.sent old.port) (ports.sent new.port) opened.faults (ports.faults old.port) (ports.faults new.port)
               so_far.messages messages so_far.sent sent so_far.failures.no_fall hands.no_fall so_far.part (record { some = hands.some; all = hands.all });
@@ -261,7 +269,7 @@ module _ {P : Type 0} (ports : Ports P) (config : GmConfig) (j : ℕ) (opened : 
       }
 
   pub same_table : new.port ≡ old.port → new.moment ≡ old.moment → ((book i : ℕ) (history : List Record) → StandsBeside book i old history → StandsBeside book i new history) →
-      HasHistory ports config j opened new count turned
+      HasHistory ports told config j opened new count turned
   same_table port moment stands =
       let so_far = has.lawful in
       record {
@@ -289,18 +297,18 @@ module _ {P : Type 0} (ports : Ports P) (config : GmConfig) (j : ℕ) (opened : 
         };
       }
 
-  pub decided : GoesOnAlone j old new → new.port ≡ old.port → HasHistory ports config j opened new count turned
+  pub decided : GoesOnAlone j old new → new.port ≡ old.port → HasHistory ports told config j opened new count turned
   decided alone port =
       let history : List Record = has.lawful.history in
       let more = alone history has.stands in
       let least : table_moment history j ≤ old.moment = has.stands.stands.least in
       let past : AreSentBy j old.moment history = λ c k own.
       let le : last_sent history c k ≤ table_moment history j = subst (λ i. last_sent history c k ≤ table_moment history i) own (last_sent-table history c k) in omega (arith, le, least) in
-      let follow = decisions_follow config j old.moment history more.0 past more.1 in
+      let follow = decisions_follow told config j old.moment history more.0 past more.1 in
       let is : count ≡ min has.lawful.sent (2 ^ 128 - 1) = has.counted in
       let same : min (count + 0) (2 ^ 128 - 1) ≡ count = omega (arith, is) in
-      subst (λ n. HasHistory ports config j opened new n turned) same
-      (subst (λ n. HasHistory ports config j opened new (min (count + 0) (2 ^ 128 - 1)) n) (omega arith)
+      subst (λ n. HasHistory ports told config j opened new n turned) same
+      (subst (λ n. HasHistory ports told config j opened new (min (count + 0) (2 ^ 128 - 1)) n) (omega arith)
       (goes_on more.0 DecidedPart [] 0 0 follow.0 (are_decisions j old.moment more.0 more.1) follow.1 (subst (λ p. HandsOver ports old.port p [] 0 0) (sym port) (hands_none ports old.port)) more.2))
 
 nothing_decided : (n : ℕ) → book_moment [] ≤ n
@@ -308,10 +316,10 @@ unfolding book_moment
 nothing_decided n = omega arith
 
 -- a table at which nothing was done
-pub at_first : {P : Type 0} (ports : Ports P) (config : GmConfig) (j : ℕ) (opened : Seen) (table : Kept P) (count : ℕ) →
-    StandsFor j table [] → seen_of ports table.port ≡ opened → count ≡ 0 → HasHistory ports config j opened table count 0
-at_first ports config j opened table count stands seen none =
-    subst (λ o. HasHistory ports config j o table count 0) seen
+pub at_first : {P : Type 0} (ports : Ports P) (told : Bool) (config : GmConfig) (j : ℕ) (opened : Seen) (table : Kept P) (count : ℕ) →
+    StandsFor j table [] → seen_of ports table.port ≡ opened → count ≡ 0 → HasHistory ports told config j opened table count 0
+at_first ports told config j opened table count stands seen none =
+    subst (λ o. HasHistory ports told config j o table count 0) seen
     (record {
       lawful = record {
         history = [];
@@ -332,7 +340,7 @@ at_first ports config j opened table count stands seen none =
       stands = record { stands = stands; reached = nothing_decided table.moment };
     })
 
-module _ {P : Type 0} (ports : Ports P) (config : GmConfig) (j : ℕ) (opened : Seen) (old new : Kept P) (count times : ℕ) (has : HasHistory ports config j opened old count times)
+module _ {P : Type 0} (ports : Ports P) (told : Bool) (config : GmConfig) (j : ℕ) (opened : Seen) (old new : Kept P) (count times : ℕ) (has : HasHistory ports told config j opened old count times)
     (x sent failed : ℕ) (now : new.moment ≡ x) (le : old.moment ≤ x) where
   at_later : (more : List Record) → greatest_by book_part more ≡ 0 → StandsFor j new (has.lawful.history ++ more) → StandsAlone j new (has.lawful.history ++ more)
   at_later more none stands = record {
@@ -343,32 +351,33 @@ module _ {P : Type 0} (ports : Ports P) (config : GmConfig) (j : ℕ) (opened : 
         omega (arith, before, same, now, le);
   }
 
-  pub turned : HandsOver ports old.port new.port (map (departure_of config x) (due_messages x old.rows)) sent failed →
+  pub turned : (announced : GmConfig) → HasClass told config announced →
+      HandsOver ports old.port new.port (map (departure_of announced x) (due_messages x old.rows)) sent failed →
       ((i : ℕ) (history : List Record) → StandsFor i old history → due_messages x old.rows ≡ map (message_of history) (due_grants history x i)) →
       ((start : Config) (i : ℕ) (history : List Record) → StandsFor i old history → StandsFor i new (history ++ (step start history x (Turn i)).records)) →
-      HasHistory ports config j opened new (min (count + sent) (2 ^ 128 - 1)) (times + 1)
-  turned hands messages stands =
+      HasHistory ports told config j opened new (min (count + sent) (2 ^ 128 - 1)) (times + 1)
+  turned announced class hands messages stands =
       let history : List Record = has.lawful.history in
       let gs : List Grant = due_grants history x j in
       let more : List Record = Looked x j ∷ map (sent_record x) gs in
-      let follow = turn_follows config history x j in
-      goes_on ports config j opened old new count times has more (TurnPart x) (map (departure_of config x) (map (message_of history) gs)) sent failed follow.0 refl follow.1
-      (subst (λ ms. HandsOver ports old.port new.port (map (departure_of config x) ms) sent failed) (messages j history has.stands.stands) hands)
+      let follow = turn_follows told config announced class history x j in
+      goes_on ports told config j opened old new count times has more (TurnPart x) (map (departure_of announced x) (map (message_of history) gs)) sent failed follow.0 refl follow.1
+      (subst (λ ms. HandsOver ports old.port new.port (map (departure_of announced x) ms) sent failed) (messages j history has.stands.stands) hands)
       (at_later more (ap (λ n. max 0 n) (greatest-sent x gs)) (stands (record { max_duration = 0; capacity = 0 }) j history has.stands.stands))
 
   pub answered : (c : Client) (request : Header) (a : Answer) → table_of c ≡ j → HandsOver ports old.port new.port (responses a (response_of config x c request)) sent failed →
       ((history : List Record) → StandsFor (table_of c) old history → a ≡ delay_answer history x c) →
       ((start : Config) (history : List Record) → StandsFor (table_of c) old history → StandsFor (table_of c) new (history ++ (step start history x (DelayReq c)).records)) →
-      HasHistory ports config j opened new (min (count + sent) (2 ^ 128 - 1)) times
+      HasHistory ports told config j opened new (min (count + sent) (2 ^ 128 - 1)) times
   answered c request a own hands met stands =
       let history : List Record = has.lawful.history in
       let before : StandsFor (table_of c) old history = subst (λ i. StandsFor i old history) (sym own) has.stands.stands in
       let is : a ≡ delay_answer history x c = met history before in
       let answer : Answer = delay_answer history x c in
       let more : List Record = Looked x (table_of c) ∷ answer_records x c answer in
-      let follow = answer_follows config history x c request answer (lawful_answer config history x c request answer refl) in
-      subst (λ n. HasHistory ports config j opened new (min (count + sent) (2 ^ 128 - 1)) n) (omega arith)
-      (goes_on ports config j opened old new count times has more (DelayReqPart x c) (responses answer (response_of config x c request)) sent failed
+      let follow = answer_follows told config history x c request answer (lawful_answer told config history x c request answer refl) in
+      subst (λ n. HasHistory ports told config j opened new (min (count + sent) (2 ^ 128 - 1)) n) (omega arith)
+      (goes_on ports told config j opened old new count times has more (DelayReqPart x c) (responses answer (response_of config x c request)) sent failed
       (subst (λ i. AllMayFollow i history more) own follow.0) (own, ap (λ i. Looked x i ∷ answer_records x c answer) own) follow.1
       (subst (λ b. HandsOver ports old.port new.port (responses b (response_of config x c request)) sent failed) is hands)
       (at_later more (none answer)

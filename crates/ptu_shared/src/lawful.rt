@@ -2,9 +2,10 @@
 //! under a lock, but whenever it is got, there is a history that the table stands for, what the
 //! table's port was sent are messages of it, and its turns are counted.
 
-ghost use Rattle.std.specs.Prelude.{◌≡◌, ◌≤◌, ◌+◌, ℕ, IfOk, IfSome, OnOk, [], max, option_map};
+ghost use Rattle.std.specs.Prelude.{◌≡◌, ◌≤◌, ◌+◌, ℕ, IfOk, IfSome, OnOk, [], max, option_map, true};
 ghost use Rattle.ptu_history.specs.Client.{table_of};
-ghost use Rattle.ptu_shard.specs.{Answered.{moment_of_answer}, Table.{StandsFor}};
+ghost use Rattle.ptu_shard.specs.{Answered.{moment_of_answer}, Row.{share_of}, Table.{StandsFor}};
+ghost use Rattle.ptu_admit.specs.{LiveRows.{AreFew, HasMore, no_grants}, Rows.{live_rows}};
 ghost use Rattle.ptu_shared.specs.{Answers.{AnswersAsk}, Delays.{IsLaterIfTooSoon}};
 ghost use Rattle.ptu_shared.specs.{Histories.{SendsCounted}, Opening.{seen_of}};
 

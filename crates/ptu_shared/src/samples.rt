@@ -1,7 +1,7 @@
 //! Histories of a table that were made out by hand. The function does nothing: its contract is the
 //! examples.
 
-ghost use Rattle.std.specs.Prelude.{◌≡◌, [], ◌∷◌, pos};
+ghost use Rattle.std.specs.Prelude.{◌≡◌, [], ◌∷◌, false, pos};
 ghost use Rattle.ptu_units.specs.declared.kind.Kind.TheVariants.{Sync};
 ghost use Rattle.ptu_history.specs.History.{Granted, Ended, Looked, Sent};
 ghost use Rattle.ptu_history.specs.Examples.{first_client, second_client, seconds};

@@ -1,6 +1,6 @@
 //! The four tables and the book, each behind a lock of its own, for several threads.
 
-ghost use Rattle.std.specs.Prelude.{◌≡◌, ◌≤◌, ◌<◌, ◌^◌, ◌+◌, IfNone, IfOk, IfSome, OnErr, option_map, replicate};
+ghost use Rattle.std.specs.Prelude.{◌≡◌, ◌≤◌, ◌<◌, ◌^◌, ◌+◌, IfNone, IfOk, IfSome, OnErr, option_map, replicate, true};
 ghost use Rattle.ptu_history.specs.Client.{table_of as table_of_client};
 ghost use Rattle.ptu_shard.specs.Answered.{moment_of_answer};
 ghost use Rattle.ptu_shared.specs.{Answers.{AnswersAsk}, Blanks.{IsBlankOf}};
@@ -64,12 +64,21 @@ pub struct Standing {
     pub refused: u64,
 }
 
-// How many sends of these ports failed.
-fn failures(tallies: &[PortTally; 4]) -> u128 {
-    u128::from(tallies[0].failed)
-        + u128::from(tallies[1].failed)
-        + u128::from(tallies[2].failed)
-        + u128::from(tallies[3].failed)
+// The grants of both. A number that would be above its type's end stands there.
+fn both(first: &Live, second: &Live) -> Live {
+    Live {
+        rates: first.rates.saturating_add(second.rates),
+        announces: first.announces.saturating_add(second.announces),
+        syncs: first.syncs.saturating_add(second.syncs),
+        delay_resps: first.delay_resps.saturating_add(second.delay_resps),
+    }
+}
+
+// How many sends of a table's port failed.
+fn failures(tally: &PortTally) -> u128
+    ensures { result < 2 ^ 64 }
+{
+    u128::from(tally.failed)
 }
 
 impl<P: Port + Send, L: Rates, G: Ledger, R: Ledger> Shared<P, L, G, R> {
@@ -379,13 +388,13 @@ impl<P: Port + Send, L: Rates, G: Ledger, R: Ledger> Shared<P, L, G, R> {
         let desk = self.desk.lock(rt);
         Standing {
             moment,
-            live: live0.and(live1).and(live2.and(live3)),
+            live: both(&both(&live0, &live1), &both(&live2, &live3)),
             sent: p0
                 .sent
                 .saturating_add(p1.sent)
                 .saturating_add(p2.sent)
                 .saturating_add(p3.sent),
-            failed: failures(&[p0, p1, p2, p3]),
+            failed: failures(&p0) + failures(&p1) + failures(&p2) + failures(&p3),
             capacity: desk.book.capacity(),
             granted: desk.granted,
             refused: desk.refused,

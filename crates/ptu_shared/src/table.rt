@@ -1,7 +1,7 @@
 //! What stands behind the lock of a table: its leases, its part of the ledger of rates, and how
 //! many datagrams its port was sent.
 
-ghost use Rattle.std.specs.Prelude.{◌≡◌, ◌≤◌, ◌+◌, ◌-◌, ◌^◌, ℕ, [], ◌++◌, List, IfSome, OnErr, OnOk, map, max, min, true};
+ghost use Rattle.std.specs.Prelude.{◌≡◌, ◌≤◌, ◌+◌, ◌-◌, ◌^◌, ℕ, [], ◌++◌, List, OnErr, OnOk, is_some, map, max, min, true};
 ghost use Rattle.std.specs.List.Sorted.{IsPermutation};
 ghost use Rattle.ptu_outside.specs.HandsOver.{HandsOver};
 ghost use Rattle.ptu_history.specs.{Client.{table_of}, History.{Record}, Verdict.{Config}};
@@ -39,7 +39,7 @@ pub(crate) struct Table<P: Port, L: Rates, J: Place> {
     ghost one: { part.parts ≡ 1 },
     ghost same: { part.amount ≡ share_of shard.rows },
     ghost own_port: { P.waiting shard.port ≡ (L.opened J.index).waiting },
-    ghost classes: { IfSome class (λ c. L.told ≡ true) },
+    ghost classes: { is_some class ≡ true → L.told ≡ true },
     ghost failures: { AreCounted P.counts_once tally.failed (L.opened J.index).faults
         (P.faults shard.port) },
 }
