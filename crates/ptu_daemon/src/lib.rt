@@ -5,7 +5,6 @@
 
 mod closing;
 mod command_laws;
-mod control;
 mod daemon;
 mod events;
 mod laws;

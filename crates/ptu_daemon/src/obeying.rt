@@ -8,11 +8,11 @@ ghost use Rattle.ptu_daemon.specs.Commands.{ended_by, standing_status};
 ghost use Rattle.ptu_daemon.specs.Obeying.{Executed, Follows, Obeys, situation_at};
 ghost use Rattle.ptu_daemon.specs.Ran.{IsSmall, Ran, standing_as};
 
-use crate::control::{answer, next_order};
 use crate::daemon::Daemon;
 use ptu_admit::InForce;
 use ptu_config::{Cause, Command, Reply, Status};
 use ptu_grandmaster::GmStatus;
+use ptu_lanes::{answer, next_order};
 use ptu_outside::{Clock, Port, Tally};
 use ptu_units::OutOfMemory;
 use std::alloc::Global;

@@ -12,7 +12,7 @@ use crate::closing::{Closing, closing_text};
 use crate::daemon::Daemon;
 use ptu_config::GmSettings;
 use ptu_grandmaster::Gm;
-use ptu_lanes::{ControlPort, Ended, Totals, serve_lanes_within};
+use ptu_lanes::{Ended, Totals, serve_lanes_within};
 use ptu_messages::PortIdentity;
 use ptu_outside::{Clock, DaemonFault, Failed, Host, Opened, Port, Sink, write_whole};
 use ptu_profile::GmConfig;
@@ -52,14 +52,6 @@ fn config(settings: &GmSettings) -> GmConfig
     }
 }
 
-// The port alone.
-fn port_of<P: Port>(control: Option<ControlPort<P>>) -> Option<P> {
-    match control {
-        Some(control) => Some(control.port),
-        None => None,
-    }
-}
-
 // Serves over these ports and clocks by lanes, with at most so many threads beside this one; or on
 // this thread, as where there are no lanes, where one is refused its thread. Gives them back, with
 // the numbers of the last line.
@@ -74,18 +66,12 @@ fn serve_by_lanes<P: Port + Send, C: Clock + Send, W: Threads + Wait + Sync>(
     requires range { IsGmInRange settings.now }
     requires senders { 1 ≤ settings.now.senders }
     ensures serves { IfOk result (λ r.
-        ServesEitherWay P.Port C.Clock settings.now opened r.0 None None (said_by r.1)) }
+        ServesEitherWay P.Port C.Clock settings.now opened r.0 control r.1 (said_by r.2)) }
 {
     let config = config(settings);
-    let key = settings.control_key.unwrap_or(0);
-    let control = control.map(|port| ControlPort { port, key });
     match serve_lanes_within(rt, alloc, threads, settings, &config, opened, control)? {
-        Ended::Served(back, control, totals) => {
-            Ok((back, port_of(control), closing_of(&totals)))
-        }
-        Ended::Refused(opened, control) => {
-            serve_rounds(alloc, settings, opened, port_of(control))
-        }
+        Ended::Served(back, control, totals) => Ok((back, control, closing_of(&totals))),
+        Ended::Refused(opened, control) => serve_rounds(alloc, settings, opened, control),
     }
 }
 

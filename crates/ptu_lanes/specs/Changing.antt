@@ -1,5 +1,5 @@
 -- The change of capacity of a grandmaster that is served (the project's own choice).
-use Rattle.std.specs.Prelude.{ℕ, ◌-◌, max, ◌&&◌, nat_lt, nat_le, if◌then◌else◌, Option, Some, None}
+use Rattle.std.specs.Prelude.{ℕ, ◌+◌, ◌==◌, max, Bool, ◌&&◌, nat_lt, nat_le, if◌then◌else◌, Option, Some, None, is_some}
 use Rattle.ptu_config.specs.{declared.settings.GmSettings.{GmSettings}, Rounds.{all_rounds}}
 
 -- the capacity to which it changes: there is one where the round of the change is one of all rounds
@@ -7,14 +7,13 @@ abbrev pub change_of : GmSettings → Option ℕ
 change_of settings =
     if nat_lt 0 settings.change_round && nat_le settings.change_round (all_rounds settings) then settings.new_capacity else None
 
--- the rounds before the change, where it changes to this; all where it does not
-abbrev pub rounds_before : GmSettings → Option ℕ → ℕ
-rounds_before settings None = all_rounds settings
-rounds_before settings (Some capacity) = settings.change_round - 1
+-- it begins with the round before which there were so many
+abbrev pub begins_changed : GmSettings → ℕ → Bool
+begins_changed settings before = (settings.change_round == before + 1) && is_some settings.new_capacity
 
--- the rounds before the change
-abbrev pub early_rounds : GmSettings → ℕ
-early_rounds settings = rounds_before settings (change_of settings)
+-- the capacity to which it changes with that round, if it does
+abbrev pub new_with : GmSettings → ℕ → Option ℕ
+new_with settings before = if settings.change_round == before + 1 then settings.new_capacity else None
 
 -- the greater of the capacity and the one to which it changes
 abbrev pub greater_of : ℕ → Option ℕ → ℕ
@@ -29,15 +28,3 @@ peak_capacity settings = greater_of settings.capacity (change_of settings)
 abbrev pub later_of : ℕ → Option ℕ → ℕ
 later_of capacity None = capacity
 later_of capacity (Some later) = later
-
--- the capacity that is in force at the end
-abbrev pub last_capacity : GmSettings → ℕ
-last_capacity settings = later_of settings.capacity (change_of settings)
-
--- how many moments the change takes
-abbrev pub moments_to : Option ℕ → ℕ
-moments_to None = 0
-moments_to (Some capacity) = 1
-
-abbrev pub change_moments : GmSettings → ℕ
-change_moments settings = moments_to (change_of settings)

@@ -9,3 +9,4 @@ pub mod Crew
 pub mod Ended
 pub mod Samples
 pub mod Orders
+pub mod Heard

@@ -1,206 +1,169 @@
--- Orders at a grandmaster that is served by lanes: the rounds of the lane that takes Signaling, with what each took of the control
--- port, and what was sent (the project's own choice).
-use Rattle.std.specs.Prelude.{◌≡◌, ◌≤◌, ℕ, zero, suc, ◌+◌, ◌*◌, ◌==◌, ◌&&◌, Bool, true, false, List, [], ◌∷◌, ◌++◌, flat_map, length, map, Option, Some, None, Result, Ok, Err, is_some, IfSome, unwrap_or}
-use Rattle.std.specs.List.{All, sum_by}
+-- Orders at a running grandmaster, and the rounds of the lane that takes Signaling, where it is served by lanes: what each took of the
+-- control port, what was decided, and what was sent (the project's own choice).
+use Rattle.std.specs.Prelude.{◌≡◌, ◌≤◌, ℕ, zero, suc, ◌+◌, ◌%◌, Bool, true, false, List, [], ◌∷◌, ◌++◌, flat_map, length, Option, Some, None, Result, Ok, Err, unwrap_or}
+use Rattle.std.specs.List.{All, AllByRecursion}
 use Rattle.ptu_units.specs.{declared.kind.Kind.{Kind}, Limits.{greatest_capacity}}
-use Rattle.ptu_outside.specs.{declared.arrival.Arrival.{Arrival}, declared.port.Port.{Ghosts as Ports}, Departure.{Departure}}
-use Rattle.ptu_outside.specs.declared.channel.Channel.TheVariants as channels
-use Rattle.ptu_outside.specs.{Handed.{WasHanded}, Taken.{Gave}}
+use Rattle.ptu_outside.specs.{declared.arrival.Arrival.{Arrival}, Departure.{Departure}}
 use Rattle.ptu_history.specs.declared.client.Client.{Client}
 use Rattle.ptu_profile.specs.declared.grandmaster.GmConfig.{GmConfig}
 use Rattle.ptu_gm_messages.specs.Replies.{cancels_to}
 use Rattle.ptu_config.specs.declared.settings.GmSettings.{GmSettings}
-use Rattle.ptu_config.specs.{Answers.{reply_text}, Commands.{asked, is_stop}, Rounds.{all_rounds}}
-use Rattle.ptu_config.specs.declared.{answer.Reply.{Reply}, answer.Status.{Status}, command.Cause.{Cause}, command.Command.{Command}}
-use Rattle.ptu_config.specs.declared.answer.Reply.TheVariants.{Done as IsDone, Shed, Stands, Bad}
+use Rattle.ptu_config.specs.Commands.{order_asked}
+use Rattle.ptu_config.specs.declared.{answer.Reply.{Reply}, command.Cause.{Cause}, command.Command.{Command}}
 use Rattle.ptu_config.specs.declared.command.Command.TheVariants as commands
-use Rattle.ptu_lanes.specs.Changing.{later_of, peak_capacity}
-use Rattle.ptu_lanes.specs.Rounds.{Exchange, IsAnswered, datagrams, replies}
+use Rattle.ptu_lanes.specs.declared.orders.Order.{Order}
+use Rattle.ptu_lanes.specs.declared.orders.Order.TheVariants as orders
+use Rattle.ptu_lanes.specs.Changing.{begins_changed, later_of, new_with, peak_capacity}
+use Rattle.ptu_lanes.specs.Rounds.{Exchange, IsAnswered, replies}
 
 -- ---- what is asked for
 
 -- what is asked for by what was taken of a control port with this key
-abbrev pub asked_in : ℕ → Option Arrival → Option (Result Command Cause)
-asked_in key None = None
-asked_in key (Some arrival) = asked key arrival.bytes
+abbrev pub order_with : ℕ → Option Arrival → Option (Result Command Cause)
+order_with key None = None
+order_with key (Some arrival) = order_asked key arrival.bytes
 
--- likewise with that of these settings
-abbrev pub ordered_by : GmSettings → Option Arrival → Option (Result Command Cause)
-ordered_by settings spoken = asked_in (unwrap_or settings.control_key 0) spoken
+-- in a round that took this of the control port; where there is one, the settings have its key
+abbrev pub order_in : GmSettings → Option Arrival → Option (Result Command Cause)
+order_in settings spoken = order_with (unwrap_or settings.control_key 0) spoken
 
--- an order that puts another capacity in force: that, or none
-abbrev pub capacity_ordered : Option (Result Command Cause) → Option ℕ
-capacity_ordered (Some (Ok (commands.Capacity capacity))) = Some capacity
-capacity_ordered (Some (Ok (commands.Stop true))) = Some 0
-capacity_ordered _ = None
+-- what was taken of the control port
+abbrev pub listed : Option Arrival → List Arrival
+listed None = []
+listed (Some arrival) = arrival ∷ []
+
+-- the order that is obeyed behind a meeting: what changes nothing is none
+abbrev pub left_of : Option (Result Command Cause) → Option Order
+left_of (Some (Ok (commands.Class class))) = Some (orders.Class class)
+left_of (Some (Ok (commands.Capacity capacity))) = Some (orders.Capacity capacity)
+left_of (Some (Ok (commands.Stop cancels))) = Some (orders.Stop cancels)
+left_of _ = None
+
+-- it puts another capacity in force: that, or none
+abbrev pub capacity_by : Option Order → Option ℕ
+capacity_by (Some (orders.Capacity capacity)) = Some capacity
+capacity_by (Some (orders.Stop true)) = Some 0
+capacity_by _ = None
+
+-- the class of the Announces behind it
+abbrev pub class_by : ℕ → Option Order → ℕ
+class_by class (Some (orders.Class told)) = told
+class_by class _ = class
 
 -- how many moments of clock 0 it takes
-abbrev pub moments_ordered : Option (Result Command Cause) → ℕ
-moments_ordered (Some (Ok (commands.Class class))) = 1
-moments_ordered (Some (Ok (commands.Capacity capacity))) = 1
-moments_ordered (Some (Ok (commands.Stop true))) = 1
-moments_ordered _ = 0
+abbrev pub moments_by : Option Order → ℕ
+moments_by (Some (orders.Class class)) = 1
+moments_by (Some (orders.Capacity capacity)) = 1
+moments_by (Some (orders.Stop true)) = 1
+moments_by _ = 0
 
--- an order may name another class, and the greatest capacity, where there is a control port
-abbrev pub may_be_told : GmSettings → Bool
-may_be_told settings = is_some settings.control_port
+-- its round is the last one
+abbrev pub stops_by : Option Order → Bool
+stops_by (Some (orders.Stop cancels)) = true
+stops_by _ = false
 
-abbrev pub peak_if : Bool → ℕ → ℕ
-peak_if true peak = greatest_capacity
-peak_if false peak = peak
+-- the greatest capacity that may come into force, where orders may come, and where none may
+abbrev pub peak_ordered : Bool → GmSettings → ℕ
+peak_ordered true settings = greatest_capacity
+peak_ordered false settings = peak_capacity settings
 
--- the greatest capacity that may come into force
-abbrev pub peak_ordered : GmSettings → ℕ
-peak_ordered settings = peak_if (may_be_told settings) (peak_capacity settings)
+-- ---- rounds, up to the one that is told to be the last
 
--- ---- rounds
+-- behind a round that is the last one there is none, and behind another one it goes on so
+abbrev pub EndsOr : {A : Type 0} → Bool → List A → Type 0 → Type 0
+EndsOr true later more = later ≡ []
+EndsOr false later more = more
 
--- a round of the lane that takes Signaling: the grants that were shed by the change of the settings with which it begins, the exchanges,
--- what was taken of the control port behind them, and the grants that were shed by that order
+-- a round that is told to be the last one is the last, and where none is told so, so many are done
+abbrev pub AreAllBy : {A : Type 0} → (A → Bool) → ℕ → List A → Type 0
+AreAllBy is_last count [] = count ≡ 0
+AreAllBy is_last zero (r ∷ later) = ⊥
+AreAllBy is_last (suc count) (r ∷ later) = EndsOr (is_last r) later (AreAllBy is_last count later)
+
+-- ---- a round of the lane that takes Signaling
+
+-- how the lane stands before a round: how many rounds were done, the sequenceId of the next CANCEL, the class of the Announces, and the
+-- capacity in force
+pub record LaneAt : Type 0 where
+  pub before : ℕ
+  pub sequence : ℕ
+  pub class : ℕ
+  pub in_force : ℕ
+
+-- as it is opened
+abbrev pub opened_at : GmSettings → LaneAt
+opened_at settings = record { before = 0; sequence = 0; class = settings.class; in_force = settings.capacity }
+
+-- the grants that were shed by the change of the settings with which it begins, the exchanges, what was taken of the control port behind
+-- them, the grants that were shed by that order, and what it was answered
 pub record LaneRound : Type 0 where
   pub changed : List (Client × Kind)
   pub exchanges : List Exchange
   pub spoken : Option Arrival
   pub shed : List (Client × Kind)
+  pub reply : Option Reply
 
--- it begins with the change of the settings
-abbrev pub begins_changed : GmSettings → ℕ → Bool
-begins_changed settings before = (settings.change_round == before + 1) && is_some settings.new_capacity
+-- the order that is obeyed behind it
+abbrev pub ordered_by : GmSettings → LaneRound → Option Order
+ordered_by settings r = left_of (order_in settings r.spoken)
 
--- a round before which there were so many: it took 64 datagrams at most, each item was decided and answered, and grants are shed only by
--- a change or an order for which they may be
-pub record IsLaneRound (settings : GmSettings) (config : GmConfig) (before : ℕ) (r : LaneRound) : Type 0 where
-  pub few : length r.exchanges ≤ 64
-  pub answered : All (IsAnswered (peak_ordered settings) config) r.exchanges
-  pub unchanged : begins_changed settings before ≡ false → r.changed ≡ []
-  pub kept : capacity_ordered (ordered_by settings r.spoken) ≡ None → r.shed ≡ []
+-- the capacity in force in it, behind the change of the settings
+abbrev pub capacity_within : GmSettings → LaneAt → ℕ
+capacity_within settings at = later_of at.in_force (new_with settings at.before)
 
-abbrev pub AreLaneRounds : GmSettings → GmConfig → ℕ → List LaneRound → Type 0
-AreLaneRounds settings config before [] = Unit {0}
-AreLaneRounds settings config before (r ∷ later) = IsLaneRound settings config before r × AreLaneRounds settings config (before + 1) later
+-- the sequenceId behind that many CANCELs
+abbrev pub sequence_on : ℕ → List (Client × Kind) → ℕ
+sequence_on sequence shed = (sequence + length shed) % 65536
 
--- all exchanges of rounds, in order
-abbrev pub exchanges_in : List LaneRound → List Exchange
-exchanges_in rounds = flat_map (λ (r : LaneRound). r.exchanges) rounds
+-- how it stands behind a round
+abbrev pub at_next : GmSettings → LaneAt → LaneRound → LaneAt
+at_next settings at r = record {
+  before = at.before + 1;
+  sequence = sequence_on (sequence_on at.sequence r.changed) r.shed;
+  class = class_by at.class (ordered_by settings r);
+  in_force = later_of (capacity_within settings at) (capacity_by (ordered_by settings r));
+}
 
--- what was taken of the control port in them
-abbrev pub list_of : Option Arrival → List Arrival
-list_of None = []
-list_of (Some arrival) = arrival ∷ []
+-- and behind rounds
+abbrev pub at_after : GmSettings → LaneAt → List LaneRound → LaneAt
+at_after settings at [] = at
+at_after settings at (r ∷ later) = at_after settings (at_next settings at r) later
 
-abbrev pub spoken_in : List LaneRound → List Arrival
-spoken_in rounds = flat_map (λ (r : LaneRound). list_of r.spoken) rounds
+-- each round is so, by how the lane stands before it
+abbrev pub AreEach : GmSettings → (LaneAt → LaneRound → Type 0) → LaneAt → List LaneRound → Type 0
+AreEach settings is at [] = Unit {0}
+AreEach settings is at (r ∷ later) = is at r × AreEach settings is (at_next settings at r) later
 
 -- the round is told to be the last one
 abbrev pub ends_with : GmSettings → LaneRound → Bool
-ends_with settings r = is_stop (ordered_by settings r.spoken)
+ends_with settings r = stops_by (ordered_by settings r)
 
--- behind such a round there is none, and behind another one it goes on so
-abbrev pub EndsOrGoesOn : Bool → List LaneRound → Type 0 → Type 0
-EndsOrGoesOn true later more = later ≡ []
-EndsOrGoesOn false later more = more
+-- ---- what rounds took, and what was sent
 
--- a round that is told to be the last one is the last, and where none is told so, so many are done
-abbrev pub AreAllLaneRounds : GmSettings → ℕ → List LaneRound → Type 0
-AreAllLaneRounds settings count [] = count ≡ 0
-AreAllLaneRounds settings zero (r ∷ later) = ⊥
-AreAllLaneRounds settings (suc count) (r ∷ later) = EndsOrGoesOn (ends_with settings r) later (AreAllLaneRounds settings count later)
+abbrev pub exchanges_in : List LaneRound → List Exchange
+exchanges_in rounds = flat_map (λ (r : LaneRound). r.exchanges) rounds
 
--- ---- what is sent
+abbrev pub spoken_in : List LaneRound → List Arrival
+spoken_in rounds = flat_map (λ (r : LaneRound). listed r.spoken) rounds
 
--- in a round whose first CANCEL has this number: the CANCELs of the change, the replies, and the CANCELs by the order
-abbrev pub round_sends : GmConfig → ℕ → LaneRound → List Departure
-round_sends config first r =
-    cancels_to config first r.changed ++ replies config r.exchanges ++ cancels_to config (first + length r.changed) r.shed
+-- in a round: the CANCELs of the change, the replies, and the CANCELs by the order, numbered on
+abbrev pub round_sends : GmConfig → LaneAt → LaneRound → List Departure
+round_sends config at r =
+    (cancels_to config at.sequence r.changed ++ replies config r.exchanges) ++ cancels_to config (sequence_on at.sequence r.changed) r.shed
 
-abbrev pub cancels_in : LaneRound → ℕ
-cancels_in r = length r.changed + length r.shed
+unfoldable pub lane_sends : GmSettings → GmConfig → LaneAt → List LaneRound → List Departure
+lane_sends settings config at [] = []
+lane_sends settings config at (r ∷ later) = round_sends config at r ++ lane_sends settings config (at_next settings at r) later
 
--- in these rounds
-unfoldable pub lane_sends : GmConfig → ℕ → List LaneRound → List Departure
-lane_sends config first [] = []
-lane_sends config first (r ∷ later) = round_sends config first r ++ lane_sends config (first + cancels_in r) later
-
--- how many moments of clock 0 the changes and the orders take
+-- how many moments of clock 0 a round takes: one for the change of the settings, one for each exchange, and one for an order that
+-- changes something
 abbrev pub moments_if : Bool → ℕ
 moments_if true = 1
 moments_if false = 0
 
-abbrev pub moments_of : GmSettings → ℕ → LaneRound → ℕ
-moments_of settings before r = moments_if (begins_changed settings before) + moments_ordered (ordered_by settings r.spoken)
+abbrev pub round_moments : GmSettings → LaneAt → LaneRound → ℕ
+round_moments settings at r = moments_if (begins_changed settings at.before) + length r.exchanges + moments_by (ordered_by settings r)
 
-abbrev pub moments_from : GmSettings → ℕ → List LaneRound → ℕ
-moments_from settings before [] = 0
-moments_from settings before (r ∷ later) = moments_of settings before r + moments_from settings (before + 1) later
-
--- ---- what is in force
-
--- the capacity to which the settings change with a round
-abbrev pub new_if : Bool → Option ℕ → Option ℕ
-new_if true new = new
-new_if false new = None
-
--- the capacity in force in a round before which there were so many, where this one was in force before it, and behind it
-abbrev pub capacity_within : GmSettings → ℕ → ℕ → ℕ
-capacity_within settings before capacity = later_of capacity (new_if (begins_changed settings before) settings.new_capacity)
-
-abbrev pub capacity_behind : GmSettings → ℕ → ℕ → LaneRound → ℕ
-capacity_behind settings before capacity r =
-    later_of (capacity_within settings before capacity) (capacity_ordered (ordered_by settings r.spoken))
-
--- and behind rounds
-abbrev pub capacity_after : GmSettings → ℕ → ℕ → List LaneRound → ℕ
-capacity_after settings before capacity [] = capacity
-capacity_after settings before capacity (r ∷ later) = capacity_after settings (before + 1) (capacity_behind settings before capacity r) later
-
--- the class of the Announces behind them
-abbrev pub class_ordered : ℕ → Option (Result Command Cause) → ℕ
-class_ordered class (Some (Ok (commands.Class told))) = told
-class_ordered class _ = class
-
-abbrev pub class_told : GmSettings → ℕ → List LaneRound → ℕ
-class_told settings class [] = class
-class_told settings class (r ∷ later) = class_told settings (class_ordered class (ordered_by settings r.spoken)) later
-
--- ---- what is answered
-
--- an answer goes to this machine itself, as a general message
-abbrev pub answer_sent : Reply → Departure
-answer_sent reply = record { ip = 0x7F000001; channel = channels.General; bytes = reply_text reply }
-
--- a status in the round of this number, where this class and this capacity are in force; all else stands behind locks
-pub record MayStand (round class capacity : ℕ) (status : Status) : Type 0 where
-  pub round_is : status.round ≡ round
-  pub class_is : status.class ≡ class
-  pub capacity_is : status.capacity ≡ capacity
-
--- this is answered to an order by which these grants were shed
-abbrev pub IsAnswerTo : ℕ → ℕ → ℕ → List (Client × Kind) → Result Command Cause → Reply → Type 0
-IsAnswerTo round class capacity shed (Err cause) reply = reply ≡ Bad cause
-IsAnswerTo round class capacity shed (Ok (commands.Class told)) reply = reply ≡ IsDone
-IsAnswerTo round class capacity shed (Ok (commands.Capacity told)) reply = reply ≡ Shed (length shed)
-IsAnswerTo round class capacity shed (Ok commands.Status) reply = (status : Status) × (reply ≡ Stands status) × MayStand round class capacity status
-IsAnswerTo round class capacity shed (Ok (commands.Stop cancels)) reply = reply ≡ IsDone
-
--- these are the answers in a round, and in rounds, before which there were so many; the class and the capacity in force are these
-abbrev pub AnswersOrder : ℕ → ℕ → ℕ → List (Client × Kind) → Option (Result Command Cause) → List Departure → Type 0
-AnswersOrder round class capacity shed None sends = sends ≡ []
-AnswersOrder round class capacity shed (Some order) sends =
-    (reply : Reply) × IsAnswerTo round class capacity shed order reply × (sends ≡ answer_sent reply ∷ [])
-
-abbrev pub LaneAnswers : GmSettings → ℕ → ℕ → ℕ → List LaneRound → List Departure → Type 0
-LaneAnswers settings before class capacity [] sends = sends ≡ []
-LaneAnswers settings before class capacity (r ∷ later) sends =
-    let order = ordered_by settings r.spoken in
-    (first : List Departure) × (rest : List Departure) × (sends ≡ first ++ rest)
-    × AnswersOrder (before + 1) class (capacity_within settings before capacity) r.shed order first
-    × LaneAnswers settings (before + 1) (class_ordered class order) (capacity_behind settings before capacity r) later rest
-
--- the control port, where there is one, in rounds before which there were so many, which began with this class and this capacity: what was
--- taken of it are the first datagrams that waited, and of the answers it was handed a part, in order
-abbrev pub WasSpokenTo : {P : Type 0} → Ports P → GmSettings → ℕ → ℕ → ℕ → List LaneRound → Option P → Option P → Type 0
-WasSpokenTo ports settings before class capacity rounds None None = spoken_in rounds ≡ []
-WasSpokenTo ports settings before class capacity rounds (Some port) (Some port') =
-    Gave (ports.waiting port) (ports.waiting port') (spoken_in rounds)
-    × ((answers : List Departure) × (sent : ℕ) × LaneAnswers settings before class capacity rounds answers × WasHanded ports port port' answers sent)
-WasSpokenTo ports settings before class capacity rounds _ _ = ⊥
+unfoldable pub lane_moments : GmSettings → LaneAt → List LaneRound → ℕ
+lane_moments settings at [] = 0
+lane_moments settings at (r ∷ later) = round_moments settings at r + lane_moments settings (at_next settings at r) later

@@ -1,64 +1,51 @@
 -- What a grandmaster has done that is served by lanes (IEEE 1588-2019 clause 16.1; rounds and the change of capacity are the
 -- project's own choice).
-use Rattle.std.specs.Prelude.{◌≡◌, ℕ, suc, zero, ◌+◌, ◌-◌, ◌*◌, ◌^◌, ◌≤◌, min, true, List, [], ◌++◌, Bool, length, map, take, drop, Option, Some, None, IfSome}
-use Rattle.ptu_units.specs.declared.kind.Kind.{Kind}
+use Rattle.std.specs.{Prelude.{◌≡◌, ℕ, suc, zero, ◌+◌, ◌-◌, ◌*◌, ◌^◌, ◌≤◌, min, true, List, [], ◌++◌, Bool, length, map, take, drop, Option, Some, None, is_some, IfSome}, List.{AllByRecursion}}
 use Rattle.ptu_outside.specs.declared.{arrival.Arrival.{Arrival}, clock.Clock.{Ghosts as Clocks}}
 use Rattle.ptu_outside.specs.declared.{opened.Opened.{Opened}, port.Port.{Ghosts as Ports}}
 use Rattle.ptu_outside.specs.{Departure.{Departure}, Faults.{HasRisen}}
-use Rattle.ptu_history.specs.declared.client.Client.{Client}
 use Rattle.ptu_profile.specs.declared.grandmaster.GmConfig.{GmConfig}
 use Rattle.ptu_shared.specs.{Histories.{SendsLawfully}, Opening.{HaveFailed, Seen, seen_of}, Turning.{Turns, turns_in}}
-use Rattle.ptu_gm_messages.specs.Replies.{cancels_to}
 use Rattle.ptu_config.specs.{declared.settings.GmSettings.{GmSettings}, Rounds.{all_rounds}}
 use Rattle.ptu_outside.specs.{Handed.{WasHanded}, Ports.{HaveRisenBy, HaveRisenJust, WereSent, ports_of, senders_of}}
-use Rattle.ptu_lanes.specs.Orders.{AreAllLaneRounds, AreLaneRounds, LaneRound, WasSpokenTo, capacity_after, exchanges_in, lane_sends, may_be_told, moments_from}
-use Rattle.ptu_lanes.specs.Rounds.{Exchange, asks_in, datagrams, grants_in, replies}
+use Rattle.ptu_lanes.specs.Orders.{AreAllBy, AreEach, LaneRound, at_after, ends_with, exchanges_in, lane_moments, lane_sends, opened_at, peak_ordered, spoken_in}
+use Rattle.ptu_lanes.specs.Heard.{IsLaneRound, SpokenTo, answers_in}
+use Rattle.ptu_lanes.specs.Rounds.{asks_in, datagrams, grants_in}
 use Rattle.ptu_lanes.specs.{Sending.{GoesOn, WasSent}, Waiting.{GaveFirst, MissedFew, PassedBy, Took, TurnedOwn}}
 use Rattle.ptu_lanes.specs.declared.serving.Totals.{Totals}
-
--- the replies of some exchanges, the CANCELs of these grants, numbered from 0, and the replies of the other exchanges: what is sent in
--- rounds without orders
-abbrev pub replies_around : GmConfig → List Exchange → List (Client × Kind) → List Exchange → List Departure
-replies_around config early shed late = replies config early ++ cancels_to config 0 shed ++ replies config late
 
 -- What the lane did that takes Signaling, at a port that tells what waits, in these rounds. It took the first 64 datagrams for each
 -- round, or all where there are fewer. For each with an item it sent one reply, in order, with an answer for each item; around those of
 -- a round it sent the CANCELs of the grants that a change of the settings or an order sheds, numbered on from 0; and nothing else. The
--- port goes on to tell, unless one of these was such that it may cease to. So many asks were granted, and so many within the profile
--- did not fit.
-pub record IsControlled {P : Type 0} (ports : Ports P) (settings : GmSettings) (config : GmConfig) (port port' : P) (left : List Arrival) (granted refused : ℕ) : Type 0 where
+-- port goes on to tell, unless one of these was such that it may cease to.
+pub record IsControlled {P : Type 0} (ports : Ports P) (settings : GmSettings) (config : GmConfig) (port port' : P) (left : List Arrival) (rounds : List LaneRound) : Type 0 where
   pub waited : List Arrival
   pub all : ports.waiting port ≡ Some waited
-  pub rounds : List LaneRound
-  pub are : AreLaneRounds settings config 0 rounds
-  pub ends : AreAllLaneRounds settings (all_rounds settings) rounds
   pub all_are : datagrams (exchanges_in rounds) ≡ take (64 * length rounds) waited
   pub rest : left ≡ drop (64 * length rounds) waited
-  pub told : WasSent ports port port' (lane_sends config 0 rounds)
-  pub goes_on : GoesOn ports port port' (lane_sends config 0 rounds)
-  pub granted_are : granted ≡ grants_in (exchanges_in rounds)
-  pub counted : granted + refused ≡ asks_in config (datagrams (exchanges_in rounds))
+  pub told : WasSent ports port port' (lane_sends settings config (opened_at settings) rounds)
+  pub goes_on : GoesOn ports port port' (lane_sends settings config (opened_at settings) rounds)
 
 -- Whatever became of that port's count of faults, and whether or not it tells what waits: the lane did these rounds, which are all, or
--- less where an order was to stop. It took the first datagrams that waited where the port still tells that, each at a new moment of its
--- clock, and one moment more for each change of the settings and each order that changes something. The port was sent, in order, so many
--- of the replies and of the CANCELs; all where its count did not rise. Each other one failed to be sent, and so did one receive a round
--- at most, which ends it; each is a fault, and there are no other faults. So many asks were granted, and so many within the profile did
--- not fit.
-pub record ExchangedAll {P C : Type 0} (ports : Ports P) (clocks : Clocks C) (settings : GmSettings) (config : GmConfig) (port port' : P) (clock clock' : C) (granted refused : ℕ) : Type 0 where
+-- less where an order was to stop; no greater capacity came into force than may, by the settings alone, or by orders where they may come.
+-- It took the first datagrams that waited where the port still tells that, each at a new moment of its clock, and one moment more for
+-- each change of the settings and each order that changes something. The port was sent, in order, a part of the replies and of the CANCELs;
+-- all where its count did not rise. Each other one failed to be sent, and so did one receive a round at most, which ends it; each is a
+-- fault, and there are no other faults. So many asks were granted, and so many within the profile did not fit.
+pub record ExchangedAll {P C : Type 0} (ports : Ports P) (clocks : Clocks C) (told : Bool) (settings : GmSettings) (config : GmConfig) (port port' : P) (clock clock' : C) (granted refused : ℕ) : Type 0 where
   pub rounds : List LaneRound
-  pub are : AreLaneRounds settings config 0 rounds
-  pub ends : AreAllLaneRounds settings (all_rounds settings) rounds
+  pub are : AreEach settings (IsLaneRound (peak_ordered told settings) settings config) (opened_at settings) rounds
+  pub ends : AreAllBy (ends_with settings) (all_rounds settings) rounds
   pub given : IfSome (ports.waiting port') (λ later. ports.waiting port ≡ Some (datagrams (exchanges_in rounds) ++ later))
   pub granted_are : granted ≡ grants_in (exchanges_in rounds)
   pub counted : granted + refused ≡ asks_in config (datagrams (exchanges_in rounds))
-  pub moments : PassedBy (length (exchanges_in rounds) + moments_from settings 0 rounds) (clocks.moments clock) (clocks.moments clock')
+  pub moments : PassedBy (lane_moments settings (opened_at settings) rounds) (clocks.moments clock) (clocks.moments clock')
   pub sent : ℕ
-  pub handed : WasHanded ports port port' (lane_sends config 0 rounds) sent
+  pub handed : WasHanded ports port port' (lane_sends settings config (opened_at settings) rounds) sent
   pub missed : ℕ
   pub once : missed ≤ length rounds
   pub failed : ℕ
-  pub each : sent + failed ≡ length (lane_sends config 0 rounds) + missed
+  pub each : sent + failed ≡ length (lane_sends settings config (opened_at settings) rounds) + missed
   pub failures : HaveFailed ports.counts_once failed (ports.faults port) (ports.faults port')
 
 -- what waits at the port of the table of each index, which only sends
@@ -131,19 +118,27 @@ TablesSent ports told config seen closed replies sent turns =
     × IfSome turns.t0 (λ n. turns_in lawful.p0.parts ≡ n) × IfSome turns.t1 (λ n. turns_in lawful.p1.parts ≡ n)
     × IfSome turns.t2 (λ n. turns_in lawful.p2.parts ≡ n) × IfSome turns.t3 (λ n. turns_in lawful.p3.parts ≡ n)
 
+-- nothing was taken of a control port in the round, and no grant was shed by an order
+pub record IsUnspoken (r : LaneRound) : Type 0 where
+  pub nothing : r.spoken ≡ None
+  pub none_shed : r.shed ≡ []
+
 -- between these ports and clocks as they were opened, and as they are to be given back, lanes served a grandmaster of these settings,
 -- and by this control port, where there is one, in so many rounds, with these numbers at the end
 pub record ServesByLanes {P C : Type 0} (ports : Ports P) (clocks : Clocks C) (settings : GmSettings) (config : GmConfig) (opened closed : Opened P C)
     (speaking speaking' : Option P) (rounds : ℕ) (numbers : Numbers) : Type 0 where
-  -- where the count of the port of the general channel did not rise, and it tells what waits
-  pub control : ¬ HasRisen (ports.faults opened.p4) (ports.faults closed.p4) → IfSome (ports.waiting closed.p4) (λ left.
-      IsControlled ports settings config opened.p4 closed.p4 left numbers.granted numbers.refused)
-  -- whatever that port did: what was taken there, which was answered so, and counted, and what was sent
-  pub exchanged : ExchangedAll ports clocks settings config opened.p4 closed.p4 opened.c0 closed.c0 numbers.granted numbers.refused
+  -- whatever became of the port of the general channel: what was taken there, which was answered so, and counted, and what was sent
+  pub exchanged : ExchangedAll ports clocks (is_some speaking) settings config opened.p4 closed.p4 opened.c0 closed.c0 numbers.granted numbers.refused
   pub done : rounds ≡ length exchanged.rounds
-  pub spoken : WasSpokenTo ports settings 0 settings.class settings.capacity exchanged.rounds speaking speaking'
+  -- where its count did not rise, and it tells what waits
+  pub control : ¬ HasRisen (ports.faults opened.p4) (ports.faults closed.p4) → IfSome (ports.waiting closed.p4) (λ left.
+      IsControlled ports settings config opened.p4 closed.p4 left exchanged.rounds)
+  -- the control port: what was taken of it in these rounds, and of the answers it was sent a part, in order
+  pub spoken : SpokenTo ports (spoken_in exchanged.rounds) (answers_in exchanged.rounds) speaking speaking'
+  -- without one each round is done, and no order comes
+  pub alone : speaking ≡ None → (rounds ≡ all_rounds settings) × AllByRecursion IsUnspoken exchanged.rounds
   -- no more is held at the end than is in force then
-  pub within : numbers.held ≤ capacity_after settings 0 settings.capacity exchanged.rounds
+  pub within : numbers.held ≤ (at_after settings (opened_at settings) exchanged.rounds).in_force
   -- likewise the port of the event channel, which was sent nothing, and goes on to tell that
   pub event : ¬ HasRisen (ports.faults opened.p5) (ports.faults closed.p5) →
       GaveFirst (64 * rounds) (ports.waiting opened.p5) (ports.waiting closed.p5)
@@ -159,7 +154,7 @@ pub record ServesByLanes {P C : Type 0} (ports : Ports P) (clocks : Clocks C) (s
   pub idle : (i : ℕ) → waits_of ports closed i ≡ waits_of ports opened i
   -- and what they were sent are, in order, messages of a history of the table: each to one of its clients, inside a live grant of the
   -- kind, in its own period, and with the sequenceId that is next
-  pub lawful : TablesSentLawfully ports (may_be_told settings) config (seen_at ports opened) closed
+  pub lawful : TablesSentLawfully ports (is_some speaking) config (seen_at ports opened) closed
   -- in each round each table was turned once, which is when the message of each grant that is due goes
   pub turned : TablesTurned lawful rounds
   -- what was sent is the number of datagrams that ports 0 to 4 were sent, whatever the counts did

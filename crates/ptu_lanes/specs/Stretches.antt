@@ -1,32 +1,23 @@
--- Several rounds of the lanes.
-use Rattle.std.specs.Prelude.{◌≡◌, ℕ, Bool, false, ◌+◌, ◌-◌, ◌*◌, ◌%◌, ◌^◌, ◌≤◌, min, List, ◌++◌, length, take, drop, Option, Some, option_map, IfSome}
-use Rattle.std.specs.List.{All, list_any, sum_by}
-use Rattle.ptu_outside.specs.declared.{arrival.Arrival.{Arrival}, clock.Clock.{Ghosts as Clocks}}
-use Rattle.ptu_outside.specs.{declared.port.Port.{Ghosts as Ports}, Faults.{HasNotFallen, HasRisen}}
+-- What lanes do, part by part, and in several rounds.
+use Rattle.std.specs.Prelude.{◌≡◌, ℕ, Bool, false, ◌+◌, ◌*◌, ◌^◌, ◌-◌, ◌≤◌, min, List, [], ◌++◌, length, Option, Some, None, IfSome}
+use Rattle.std.specs.List.{All}
+use Rattle.ptu_units.specs.declared.kind.Kind.{Kind}
+use Rattle.ptu_outside.specs.declared.{arrival.Arrival.{Arrival}, clock.Clock.{Ghosts as Clocks}, port.Port.{Ghosts as Ports}}
+use Rattle.ptu_outside.specs.{Departure.{Departure}, Faults.{HasNotFallen, HasRisen}, Handed.{WasHanded}}
+use Rattle.ptu_history.specs.declared.client.Client.{Client}
 use Rattle.ptu_profile.specs.declared.grandmaster.GmConfig.{GmConfig}
 use Rattle.ptu_shared.specs.{Opening.{HaveFailed}, Seats.{SeatCounts}, Turning.{Turns, after_rounds}}
-use Rattle.ptu_lanes.specs.Rounds.{Exchange, Exchanged, IsAnswered, asks_in, datagrams, grants_in, replies}
-use Rattle.ptu_lanes.specs.{Sending.{GoesOn, WasSent}, Waiting.{GaveFirst, MissedFew, PassedBy, Took, rights}}
-use Rattle.ptu_lanes.specs.declared.lanes.{ControlLane.{ControlLane}, EventLane.{EventLane}}
-use Rattle.ptu_lanes.specs.declared.{lanes.{SendingLane.{SendingLane}, SendingLanes.{SendingLanes}}, orders.ControlPort.{ControlPort}}
-use Rattle.ptu_config.specs.declared.settings.GmSettings.{GmSettings}
-use Rattle.ptu_outside.specs.Handed.{WasHanded}
-use Rattle.ptu_lanes.specs.Orders.{AreAllLaneRounds, AreLaneRounds, LaneRound, WasSpokenTo, cancels_in, capacity_after, class_told, ends_with, exchanges_in, lane_sends, moments_from}
+use Rattle.ptu_gm_messages.specs.Replies.{cancels_to}
+use Rattle.ptu_config.specs.declared.{settings.GmSettings.{GmSettings}, answer.Reply.{Reply}}
+use Rattle.ptu_lanes.specs.Changing.{begins_changed, later_of, new_with}
+use Rattle.ptu_lanes.specs.Rounds.{Exchange, IsAnswered, asks_in, datagrams, grants_in, replies}
+use Rattle.ptu_lanes.specs.Waiting.{GaveFirst, MissedFew, PassedBy, Took, rights}
+use Rattle.ptu_lanes.specs.Orders.{LaneAt, LaneRound, at_next, capacity_by, class_by, ends_with, left_of, listed, moments_by, moments_if, order_in, round_moments, round_sends, sequence_on, stops_by}
+use Rattle.ptu_lanes.specs.Heard.{AnswersNow, IsLaneRound, SpokenTo, reply_sent, reply_to}
+use Rattle.ptu_lanes.specs.declared.orders.Order.{Order}
+use Rattle.ptu_lanes.specs.declared.lanes.{ControlLane.{ControlLane}, EventLane.{EventLane}, SendingLane.{SendingLane}, SendingLanes.{SendingLanes}}
 
--- so many rounds at a port that tells what waits: the lane took the first 64 datagrams for each round, or all where there are
--- fewer, and sent one reply for each that has an item, in order, and nothing else; the port goes on to tell, unless a reply
--- was such that it may cease to; and the lane's seat has counted the answers
-pub record AreRounds {P : Type 0} (ports : Ports P) (greatest : ℕ) (config : GmConfig) (rounds : ℕ) (port port' : P) (left : List Arrival) (old new : SeatCounts) : Type 0 where
-  pub waited : List Arrival
-  pub all : ports.waiting port ≡ Some waited
-  pub exchanges : List Exchange
-  pub first : datagrams exchanges ≡ take (64 * rounds) waited
-  pub rest : left ≡ drop (64 * rounds) waited
-  pub answered : All (IsAnswered greatest config) exchanges
-  pub told : WasSent ports port port' (replies config exchanges)
-  pub goes_on : GoesOn ports port port' (replies config exchanges)
-  pub granted : new.granted ≡ old.granted + grants_in exchanges
-  pub counted : new.granted + new.refused ≡ old.granted + old.refused + asks_in config (datagrams exchanges)
+-- ---- counts
 
 -- from a count of failed calls at a port to a later one: they are counted so from any count of faults from which those before were
 abbrev pub CountsFailures : Bool → ℕ → ℕ → ℕ → ℕ → Type 0
@@ -36,23 +27,7 @@ CountsFailures once faults faults' failed failed' = (start : ℕ) → HaveFailed
 abbrev pub CountsSends : ℕ → ℕ → ℕ → Type 0
 CountsSends sent more sent' = (start : ℕ) → sent ≡ min start (2 ^ 128 - 1) → sent' ≡ min (start + more) (2 ^ 128 - 1)
 
--- what the lane that takes Signaling did in so many rounds: its port, its clock, what its seat has counted, how many datagrams it has
--- counted that were sent, and how many calls of the port that failed, before and after
-pub record TookSignaling {P C : Type 0} (ports : Ports P) (clocks : Clocks C) (greatest : ℕ) (config : GmConfig) (rounds : ℕ) (port port' : P) (clock clock' : C) (old new : SeatCounts) (gone gone' failed failed' : ℕ) : Type 0 where
-  pub did : ¬ HasRisen (ports.faults port) (ports.faults port') → IfSome (ports.waiting port') (λ left.
-      AreRounds ports greatest config rounds port port' left old new)
-  pub sent : ℕ
-  pub more : ℕ
-  pub exchanged : Exchanged ports clocks greatest config rounds sent more port port' clock clock' old new
-  pub most : new.granted + new.refused ≤ old.granted + old.refused + 2048 * rounds
-  pub sends : CountsSends gone sent gone'
-  pub failures : CountsFailures ports.counts_once (ports.faults port) (ports.faults port') failed failed'
-  pub no_fall : HasNotFallen (ports.faults port) (ports.faults port')
-
--- the same of the lane, before and after
-abbrev pub ControlLaneDid : {P C G R : Type 0} → Ports P → Clocks C → ℕ → GmConfig → ℕ → ControlLane P C G R → ControlLane P C G R → Type 0
-ControlLaneDid ports clocks greatest config rounds old new =
-    TookSignaling ports clocks greatest config rounds old.port new.port old.clock new.clock old.seat new.seat old.tally.sent new.tally.sent old.tally.failed new.tally.failed
+-- ---- the lanes that take Delay_Reqs, and turn tables
 
 -- what the lane that takes Delay_Reqs did in so many rounds: its port, its clock and how many receives failed, before and after; the
 -- port was sent nothing, and goes on to tell that
@@ -85,37 +60,125 @@ pub record HaveTurned {C L : Type 0} (clocks : Clocks C) (old new : SendingLanes
   pub third : SendingLaneDid clocks new.third.done old.third new.third
   pub fourth : SendingLaneDid clocks new.fourth.done old.fourth new.fourth
 
--- ---- rounds with orders
+-- ---- the lane that takes Signaling
 
--- the control port of a lane, alone
-abbrev pub control_of : {P : Type 0} → Option (ControlPort P) → Option P
-control_of control = option_map (λ (c : ControlPort _). c.port) control
+-- its port, its clock, what its seat has counted, how many datagrams it has counted that were sent, and how many calls of the port that
+-- failed
+pub record Taking (P C : Type 0) : Type 0 where
+  pub port : P
+  pub clock : C
+  pub seat : SeatCounts
+  pub gone : ℕ
+  pub failures : ℕ
 
--- what the lane that takes Signaling did in rounds before which there were so many, with the orders that came in them: as in
--- `TookSignaling`, and the CANCELs of changes and orders stand around the replies of their rounds, numbered on
-pub record LaneDid {P C G R : Type 0} (ports : Ports P) (clocks : Clocks C) (settings : GmSettings) (config : GmConfig) (before : ℕ) (old new : ControlLane P C G R) : Type 0 where
-  pub rounds : List LaneRound
-  pub are : AreLaneRounds settings config before rounds
-  pub done : new.done ≡ old.done + length rounds
-  pub given : IfSome (ports.waiting new.port) (λ later. ports.waiting old.port ≡ Some (datagrams (exchanges_in rounds) ++ later))
-  -- where the count did not rise, each round but the last took 64 datagrams or all that waited
-  pub first : ¬ HasRisen (ports.faults old.port) (ports.faults new.port) → GaveFirst (64 * length rounds) (ports.waiting old.port) (ports.waiting new.port)
-  pub granted : new.seat.granted ≡ old.seat.granted + grants_in (exchanges_in rounds)
-  pub counted : new.seat.granted + new.seat.refused ≡ old.seat.granted + old.seat.refused + asks_in config (datagrams (exchanges_in rounds))
-  pub moments : PassedBy (length (exchanges_in rounds) + moments_from settings before rounds) (clocks.moments old.clock) (clocks.moments new.clock)
+abbrev pub taking_of : {P C G R : Type 0} → ControlLane P C G R → Taking P C
+taking_of lane = record { port = lane.port; clock = lane.clock; seat = lane.seat; gone = lane.tally.sent; failures = lane.tally.failed }
+
+-- From one to a later one of these, whatever became of the port's count of faults, and whether or not it tells what waits: the lane had
+-- these exchanges, the datagrams of which are the first that waited where the port still tells that; its seat has counted the grants among
+-- the answers, and all asks within the profile; so many moments of the clock were taken; and of these datagrams the port was sent a part,
+-- in order. So many calls of the port failed: each send of another one, and so many receives.
+pub record HasMoved {P C : Type 0} (ports : Ports P) (clocks : Clocks C) (config : GmConfig) (exchanges : List Exchange) (sends : List Departure) (moments missed : ℕ)
+    (old new : Taking P C) : Type 0 where
+  pub given : IfSome (ports.waiting new.port) (λ later. ports.waiting old.port ≡ Some (datagrams exchanges ++ later))
+  pub granted : new.seat.granted ≡ old.seat.granted + grants_in exchanges
+  pub counted : new.seat.granted + new.seat.refused ≡ old.seat.granted + old.seat.refused + asks_in config (datagrams exchanges)
+  pub passed : PassedBy moments (clocks.moments old.clock) (clocks.moments new.clock)
   pub sent : ℕ
-  pub handed : WasHanded ports old.port new.port (lane_sends config old.sequence rounds) sent
-  pub missed : ℕ
-  pub once : missed ≤ length rounds
+  pub handed : WasHanded ports old.port new.port sends sent
   pub failed : ℕ
-  pub each : sent + failed ≡ length (lane_sends config old.sequence rounds) + missed
-  pub failures : CountsFailures ports.counts_once (ports.faults old.port) (ports.faults new.port) old.tally.failed new.tally.failed
-  pub sends : CountsSends old.tally.sent sent new.tally.sent
-  pub no_fall : HasNotFallen (ports.faults old.port) (ports.faults new.port)
-  pub sequence : new.sequence ≡ (old.sequence + sum_by cancels_in rounds) % 65536
-  pub in_force : new.in_force ≡ capacity_after settings before old.in_force rounds
-  pub class : new.class ≡ class_told settings old.class rounds
-  pub spoken : WasSpokenTo ports settings before old.class old.in_force rounds (control_of old.control) (control_of new.control)
-  pub stopped : new.stopped ≡ list_any (ends_with settings) rounds
-  -- an order to stop is the last
-  pub last : (count : ℕ) → (new.stopped ≡ false → count ≡ length rounds) → length rounds ≤ count → AreAllLaneRounds settings count rounds
+  pub each : sent + failed ≡ length sends + missed
+  pub faults : HaveFailed ports.counts_once failed (ports.faults old.port) (ports.faults new.port)
+  pub counts : CountsFailures ports.counts_once (ports.faults old.port) (ports.faults new.port) old.failures new.failures
+  pub sums : CountsSends old.gone sent new.gone
+
+-- how it stands before its next round
+abbrev pub lane_at : {P C G R : Type 0} → ControlLane P C G R → LaneAt
+lane_at lane = record { before = lane.done; sequence = lane.sequence; class = lane.class; in_force = lane.in_force }
+
+-- the capacity in force was changed, by which these grants were shed, and their CANCELs were handed to the port
+pub record HasResized {P C : Type 0} (ports : Ports P) (clocks : Clocks C) (config : GmConfig) (moments : ℕ) (shed : List (Client × Kind)) (sequence sequence' : ℕ) (old new : Taking P C) : Type 0 where
+  pub moved : HasMoved ports clocks config [] (cancels_to config sequence shed) moments 0 old new
+  pub sequence_is : sequence' ≡ sequence_on sequence shed
+
+-- a round has begun, with the change of the settings where it comes with it
+pub record HasBegun {P C G R : Type 0} (ports : Ports P) (clocks : Clocks C) (settings : GmSettings) (config : GmConfig) (old new : ControlLane P C G R) : Type 0 where
+  pub changed : List (Client × Kind)
+  pub resized : HasResized ports clocks config (moments_if (begins_changed settings old.done)) changed old.sequence new.sequence (taking_of old) (taking_of new)
+  pub unchanged : begins_changed settings old.done ≡ false → changed ≡ []
+  pub seat : new.seat ≡ old.seat
+  pub in_force : new.in_force ≡ later_of old.in_force (new_with settings old.done)
+  pub done : new.done ≡ old.done
+  pub class : new.class ≡ old.class
+  pub control : new.control ≡ old.control
+  pub stopped : new.stopped ≡ old.stopped
+
+-- the rest of the lane stays, but for its control port
+pub record IsBeside {P C G R : Type 0} (old new : ControlLane P C G R) : Type 0 where
+  pub at : lane_at new ≡ lane_at old
+  pub stopped : new.stopped ≡ old.stopped
+
+-- what waits of Signaling in a round was taken, and answered; where the count did not rise, up to 64 datagrams or all that waited
+pub record HasTaken {P C G R : Type 0} (ports : Ports P) (clocks : Clocks C) (greatest : ℕ) (config : GmConfig) (old new : ControlLane P C G R) : Type 0 where
+  pub exchanges : List Exchange
+  pub few : length exchanges ≤ 64
+  pub answered : All (IsAnswered greatest config) exchanges
+  pub missed : ℕ
+  pub once : missed ≤ 1
+  pub moved : HasMoved ports clocks config exchanges (replies config exchanges) (length exchanges) missed (taking_of old) (taking_of new)
+  pub front : ¬ HasRisen (ports.faults old.port) (ports.faults new.port) → GaveFirst 64 (ports.waiting old.port) (ports.waiting new.port)
+  pub most : new.seat.granted + new.seat.refused ≤ old.seat.granted + old.seat.refused + 2048
+  pub beside : IsBeside old new
+
+-- and behind that a datagram of the control port, where there is one; this order is left to be obeyed
+pub record HasHeard {P C G R : Type 0} (ports : Ports P) (clocks : Clocks C) (greatest : ℕ) (settings : GmSettings) (config : GmConfig) (old new : ControlLane P C G R) (order : Option Order) : Type 0 where
+  pub took : HasTaken ports clocks greatest config old new
+  pub spoken : Option Arrival
+  pub reply : Option Reply
+  pub spoke : SpokenTo ports (listed spoken) (reply_sent reply) old.control new.control
+  pub left : order ≡ left_of (order_in settings spoken)
+  pub now : AnswersNow (old.done + 1) old.class old.in_force (order_in settings spoken) order reply
+
+-- an order was executed, which is to be answered so
+pub record HasExecuted {P C G R : Type 0} (ports : Ports P) (clocks : Clocks C) (config : GmConfig) (order : Order) (old new : ControlLane P C G R) (reply : Reply) : Type 0 where
+  pub shed : List (Client × Kind)
+  pub resized : HasResized ports clocks config (moments_by (Some order)) shed old.sequence new.sequence (taking_of old) (taking_of new)
+  pub kept : capacity_by (Some order) ≡ None → shed ≡ []
+  pub replied : reply ≡ reply_to order shed
+  pub seat : new.seat ≡ old.seat
+  pub in_force : new.in_force ≡ later_of old.in_force (capacity_by (Some order))
+  pub class : new.class ≡ class_by old.class (Some order)
+  pub done : new.done ≡ old.done
+  pub control : new.control ≡ old.control
+  pub stopped : old.stopped ≡ false → new.stopped ≡ stops_by (Some order)
+
+-- the order that came, if one did, was obeyed, and answered so
+abbrev pub RepliesTo : Option Order → List (Client × Kind) → Option Reply → Type 0
+RepliesTo None shed reply = reply ≡ None
+RepliesTo (Some order) shed reply = reply ≡ Some (reply_to order shed)
+
+pub record HasObeyed {P C G R : Type 0} (ports : Ports P) (clocks : Clocks C) (config : GmConfig) (order : Option Order) (old new : ControlLane P C G R) : Type 0 where
+  pub shed : List (Client × Kind)
+  pub resized : HasResized ports clocks config (moments_by order) shed old.sequence new.sequence (taking_of old) (taking_of new)
+  pub kept : capacity_by order ≡ None → shed ≡ []
+  pub reply : Option Reply
+  pub replied : RepliesTo order shed reply
+  pub spoke : SpokenTo ports [] (reply_sent reply) old.control new.control
+  pub seat : new.seat ≡ old.seat
+  pub in_force : new.in_force ≡ later_of old.in_force (capacity_by order)
+  pub class : new.class ≡ class_by old.class order
+  pub done : new.done ≡ old.done
+  pub stopped : old.stopped ≡ false → new.stopped ≡ stops_by order
+
+-- a whole round
+pub record DidLaneRound {P C G R : Type 0} (ports : Ports P) (clocks : Clocks C) (greatest : ℕ) (settings : GmSettings) (config : GmConfig) (old new : ControlLane P C G R) : Type 0 where
+  pub round : LaneRound
+  pub is : IsLaneRound greatest settings config (lane_at old) round
+  pub at : lane_at new ≡ at_next settings (lane_at old) round
+  pub missed : ℕ
+  pub once : missed ≤ 1
+  pub moved : HasMoved ports clocks config round.exchanges (round_sends config (lane_at old) round) (round_moments settings (lane_at old) round) missed (taking_of old) (taking_of new)
+  pub front : ¬ HasRisen (ports.faults old.port) (ports.faults new.port) → GaveFirst 64 (ports.waiting old.port) (ports.waiting new.port)
+  pub most : new.seat.granted + new.seat.refused ≤ old.seat.granted + old.seat.refused + 2048
+  pub spoke : SpokenTo ports (listed round.spoken) (reply_sent round.reply) old.control new.control
+  pub stopped : old.stopped ≡ false → new.stopped ≡ ends_with settings round

@@ -1,15 +1,13 @@
-//! The change of capacity of a grandmaster that is served by lanes.
+//! Changes of the capacity in force of a grandmaster that is served by lanes.
 
-ghost use Rattle.std.specs.Prelude.{◌≡◌, ◌+◌, ◌-◌, ◌^◌, ◌≤◌, min, ℕ, IfOk, OnErr, OnOk, ◌%◌, length, IsSome, List, Some};
+ghost use Rattle.std.specs.Prelude.{◌≡◌, ◌+◌, ◌-◌, ◌^◌, ◌≤◌, min, ℕ, IfOk, OnErr, OnOk, ◌%◌, length, List};
 ghost use Rattle.ptu_outside.specs.HandsOver.{HandsOver};
 ghost use Rattle.ptu_units.specs.declared.kind.Kind.{Kind};
 ghost use Rattle.ptu_history.specs.declared.client.Client.{Client};
 ghost use Rattle.ptu_gm_messages.specs.Replies.{cancels_to};
-ghost use Rattle.ptu_config.specs.{Limits.{IsGmInRange}, Rounds.{all_rounds}};
-ghost use Rattle.ptu_shared.specs.Seats.{no_verdicts};
-ghost use Rattle.ptu_lanes.specs.{Changing.{change_of}, Crew.{IsFresh, ServedAs}, Orders.{peak_ordered}, Waiting.{PassedBy}};
+ghost use Rattle.ptu_lanes.specs.{Changing.{new_with}, Waiting.{PassedBy}};
 
-use crate::lanes::{ControlLane, Rounds};
+use crate::lanes::ControlLane;
 use crate::service::Service;
 use ptu_admit::InForce;
 use ptu_config::GmSettings;
@@ -20,28 +18,23 @@ use ptu_units::{Capacity, OutOfMemory};
 use std::sync::Wait;
 use std::sync::ledger::Ledger;
 
-/// The capacity to which the settings change, if they do: the round of the change is one of all
-/// rounds.
-pub(crate) fn change(settings: &GmSettings) -> Option<Capacity>
-    requires { IsGmInRange settings.now }
-    ensures change { result ≡ change_of settings.now }
-    ensures round { IsSome result → (1 ≤ settings.now.change_round)
-        × (settings.now.change_round ≤ all_rounds settings.now) }
+/// The capacity to which the settings change with the round before which there were so many, if
+/// they do.
+pub(crate) fn capacity_with(settings: &GmSettings, before: u64) -> Option<Capacity>
+    ensures { result ≡ new_with settings.now before }
 {
-    let round = u64::from(settings.change_round);
-    if 0 < round && round <= settings.all_rounds() {
+    if u64::from(settings.change_round).checked_sub(1) == Some(before) {
         settings.new_capacity
     } else {
         None
     }
 }
 
-/// How many rounds there are before the change of capacity, where there is one.
-pub(crate) fn rounds_before_change(settings: &GmSettings) -> Option<u64>
-    requires { IsGmInRange settings.now }
-{
-    match change(settings) {
-        Some(_) => Some(u64::from(settings.change_round) - 1),
+/// How many rounds there are before the one with which the settings change the capacity, where they
+/// do.
+pub(crate) fn rounds_before_change(settings: &GmSettings) -> Option<u64> {
+    match settings.new_capacity {
+        Some(_) => u64::from(settings.change_round).checked_sub(1),
         None => None,
     }
 }
@@ -81,64 +74,4 @@ pub(crate) fn change_capacity<P: Port + Send, C: Clock, L: Rates, G: Ledger, R: 
     lane.sequence = sequence_after(lane.sequence, sends.sent + sends.failed);
     lane.in_force = capacity;
     Ok(sends.sent + sends.failed)
-}
-
-impl<P: Port + Send, L: Rates, G: Ledger, R: Ledger, W: Wait> Service<'_, P, L, G, R, W> {
-    // The rounds of the lane that takes Signaling before a change to this capacity, the change, and
-    // the rounds from it on.
-    fn take_signaling_around<C: Clock>(
-        &self,
-        settings: &GmSettings,
-        rounds: &Rounds,
-        capacity: Capacity,
-        lane: ControlLane<P, C, G, R>,
-    ) -> Result<ControlLane<P, C, G, R>, OutOfMemory>
-        requires range { IsGmInRange settings.now }
-        requires change { change_of settings.now ≡ Some capacity }
-        requires round { (1 ≤ settings.now.change_round)
-            × (settings.now.change_round ≤ all_rounds settings.now) }
-        requires ledger { L.parts ≡ 4 }
-        requires most { (capacity ≤ L.most) × (L.most ≡ peak_ordered settings.now) }
-        requires seat { lane.seat ≡ no_verdicts }
-        requires tally { (lane.tally.sent ≡ 0) × (lane.tally.failed ≡ 0) }
-        requires fresh { IsFresh settings.now lane }
-        ensures { IfOk result (ServedAs P.Port C.Clock settings.now
-            self.now.base.now.config.now lane) }
-    {
-        let early = u64::from(settings.change_round) - 1;
-        let late = settings.all_rounds() - early;
-        let mut lane = self.take_part_signaling(settings, rounds, early, lane)?;
-        if lane.stopped {
-            return Ok(lane);
-        }
-        let changed = change_capacity(self, InForce::of(capacity), &mut lane);
-        rounds.met(self.base.rt, changed)?;
-        self.take_part_signaling(settings, rounds, late, lane)
-    }
-
-    /// All rounds of the lane that takes Signaling, with a meeting after each. The change of
-    /// capacity, where there is one, stands between two rounds, and has a meeting behind it.
-    ///
-    /// # Errors
-    /// `OutOfMemory`, with the lane dropped: after the round in which it or another lane gave up.
-    pub(crate) fn take_signaling_all<C: Clock>(
-        &self,
-        settings: &GmSettings,
-        rounds: &Rounds,
-        lane: ControlLane<P, C, G, R>,
-    ) -> Result<ControlLane<P, C, G, R>, OutOfMemory>
-        requires range { IsGmInRange settings.now }
-        requires ledger { L.parts ≡ 4 }
-        requires most { L.most ≡ peak_ordered settings.now }
-        requires seat { lane.seat ≡ no_verdicts }
-        requires tally { (lane.tally.sent ≡ 0) × (lane.tally.failed ≡ 0) }
-        requires fresh { IsFresh settings.now lane }
-        ensures { IfOk result (ServedAs P.Port C.Clock settings.now
-            self.now.base.now.config.now lane) }
-    {
-        match change(settings) {
-            Some(capacity) => self.take_signaling_around(settings, rounds, capacity, lane),
-            None => self.take_part_signaling(settings, rounds, settings.all_rounds(), lane),
-        }
-    }
 }

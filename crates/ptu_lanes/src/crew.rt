@@ -2,10 +2,10 @@
 //! Signaling. All threads are made before the first datagram is taken. Where one is refused, no
 //! lane serves, and all is given back as it was opened.
 
-ghost use Rattle.std.specs.Prelude.{◌≡◌, ◌+◌, ◌≤◌, ◌<◌, ℕ, [], IfOk, IfSome};
+ghost use Rattle.std.specs.Prelude.{◌≡◌, ◌+◌, ◌≤◌, ◌<◌, [], is_some, IfOk, IfSome};
 ghost use Rattle.ptu_shared.specs.{Blanks.{IsBlankOf}, Opening.{seen_of}, Seats.{no_verdicts}};
 ghost use Rattle.ptu_config.specs.{Limits.{IsGmInRange}, Rounds.{all_rounds}};
-ghost use Rattle.ptu_lanes.specs.Orders.{may_be_told, peak_ordered};
+ghost use Rattle.ptu_lanes.specs.Orders.{peak_ordered};
 ghost use Rattle.ptu_lanes.specs.Crew.{AreTurning, CrewCameTo, Ends, EventKept, HasDone, HasLeft, IsAtWork, IsFresh, IsServed, IsTurning, SendingKept, ServedAs};
 ghost use Rattle.ptu_shared.specs.Turning.{AreTurnBlanks};
 ghost use Rattle.ptu_lanes.specs.Stretches.{EventLaneDid, HaveTurned, SendingLaneDid};
@@ -13,7 +13,6 @@ ghost use Rattle.ptu_lanes.specs.Stretches.{EventLaneDid, HaveTurned, SendingLan
 use crate::calls::{Call, Called, EventCall, EventWork, SendingCall, SendingCalls, SendingWork};
 use crate::changing::rounds_before_change;
 use crate::lanes::{ControlLane, EventLane, Lanes, Rounds, SendingLane, SendingLanes};
-use crate::orders::ControlPort;
 use crate::service::{Base, Service};
 use ptu_admit::InForce;
 use ptu_config::GmSettings;
@@ -36,7 +35,7 @@ pub(crate) enum Done<P: Port, C: Clock, L: Rates, G: Ledger, R: Ledger> {
     /// The lanes did all rounds. Beside them are the seats that no lane has: none.
     Served(Lanes<P, C, L, G, R>, Vec<Seat<G, R>>),
     /// A lane was refused its thread. All is as it was opened.
-    Refused(Opened<P, C>, Option<ControlPort<P>>),
+    Refused(Opened<P, C>, Option<P>),
 }
 
 /// What the lanes of a grandmaster have in common before they serve.
@@ -135,7 +134,8 @@ where
     ) -> Called<ControlLane<P, C, G, R>>
         requires range { IsGmInRange settings.now }
         requires ledger { L.parts ≡ 4 }
-        requires most { L.most ≡ peak_ordered settings.now }
+        requires most { L.most ≡ peak_ordered L.told settings.now }
+        requires told { L.told ≡ is_some lane.control }
         requires seat { lane.seat ≡ no_verdicts }
         requires tally { (lane.tally.sent ≡ 0) × (lane.tally.failed ≡ 0) }
         requires fresh { IsFresh settings.now lane }
@@ -155,6 +155,7 @@ where
     // The call of the lane that takes Delay_Reqs.
     fn call_event<C: Clock>(&self, lane: EventLane<P, C>) -> Called<EventLane<P, C>>
         requires config { self.now.base.now.config.now ≡ L.config }
+        requires fresh { lane.done ≡ 0 }
         ensures { CrewCameTo (λ new. EventLaneDid P.Port C.Clock new.done lane new) lane result }
     {
         match self.service() {
@@ -165,7 +166,8 @@ where
 
     // The call of a lane that turns tables.
     fn call_sending<C: Clock>(&self, lane: SendingLane<C, L>) -> Called<SendingLane<C, L>>
-        requires { self.now.base.now.config.now ≡ L.config }
+        requires config { self.now.base.now.config.now ≡ L.config }
+        requires fresh { lane.done ≡ 0 }
         ensures { CrewCameTo (λ new. SendingLaneDid C.Clock new.done lane new) lane result }
     {
         match self.service() {
@@ -211,6 +213,7 @@ where
         lane: EventLane<P, C>,
     ) -> EventCall<P, C>
         requires config { self.now.base.now.config.now ≡ L.config }
+        requires fresh { lane.done ≡ 0 }
         ensures { IsAtWork (λ new. EventLaneDid P.Port C.Clock new.done lane new) lane
             (EventKept P.Port C.Clock) result }
     {
@@ -222,7 +225,7 @@ where
             0,
             work,
             move ||
-                requires { self.now.base.now.config.now ≡ L.config }
+                requires { (self.now.base.now.config.now ≡ L.config) × (lane.done ≡ 0) }
             { self.call_event(lane) },
         )
     }
@@ -236,6 +239,7 @@ where
     ) -> SendingCall<C, L>
         requires config { self.now.base.now.config.now ≡ L.config }
         requires index { index < 4 }
+        requires fresh { lane.done ≡ 0 }
         ensures { IsTurning C.Clock lane result }
     {
         if !lane.turner.may_turn_any() {
@@ -249,7 +253,7 @@ where
             1 + index,
             work,
             move ||
-                requires { self.now.base.now.config.now ≡ L.config }
+                requires { (self.now.base.now.config.now ≡ L.config) × (lane.done ≡ 0) }
             { self.call_sending(lane) },
         )
     }
@@ -260,7 +264,9 @@ where
         scope: &Scope<'s, E>,
         lanes: SendingLanes<C, L>,
     ) -> SendingCalls<C, L>
-        requires { self.now.base.now.config.now ≡ L.config }
+        requires config { self.now.base.now.config.now ≡ L.config }
+        requires fresh { (lanes.first.done ≡ 0) × (lanes.second.done ≡ 0)
+            × (lanes.third.done ≡ 0) × (lanes.fourth.done ≡ 0) }
         ensures { AreTurning C.Clock lanes result }
     {
         let SendingLanes {
@@ -336,7 +342,7 @@ where
         requires granted { IsBlankOf G.name G.parts L.seats ledgers.granted }
         requires refused { IsBlankOf R.name R.parts L.seats ledgers.refused }
         requires opening { L.opening ≡ settings.now.capacity }
-        requires most { L.most ≡ peak_ordered settings.now }
+        requires most { L.most ≡ peak_ordered L.told settings.now }
         requires seats { L.seats ≡ 1 }
         requires ports { (seen_of P.Port p0 ≡ L.opened 0) × (seen_of P.Port p1 ≡ L.opened 1)
             × (seen_of P.Port p2 ≡ L.opened 2) × (seen_of P.Port p3 ≡ L.opened 3) }
@@ -361,14 +367,15 @@ where
         settings: &GmSettings,
         blanks: Blanks,
         opened: Opened<P, C>,
-        control: Option<ControlPort<P>>,
+        control: Option<P>,
     ) -> Result<Done<P, C, L, G, R>, OutOfMemory>
         requires rates { IsBlankOf L.name L.parts 4 blanks.rates }
         requires granted { IsBlankOf G.name G.parts L.seats blanks.granted }
         requires refused { IsBlankOf R.name R.parts L.seats blanks.refused }
         requires turns { AreTurnBlanks L.turns blanks.turns }
         requires opening { L.opening ≡ settings.now.capacity }
-        requires most { L.most ≡ peak_ordered settings.now }
+        requires most { L.most ≡ peak_ordered L.told settings.now }
+        requires told { L.told ≡ is_some control }
         requires seats { L.seats ≡ 1 }
         requires ports { (seen_of P.Port opened.p0 ≡ L.opened 0)
             × (seen_of P.Port opened.p1 ≡ L.opened 1) × (seen_of P.Port opened.p2 ≡ L.opened 2)
@@ -440,7 +447,7 @@ pub(crate) fn call_all<'a, P, C, L, G, R, W>(
     settings: &GmSettings,
     blanks: Blanks,
     opened: Opened<P, C>,
-    control: Option<ControlPort<P>>,
+    control: Option<P>,
 ) -> Result<Done<P, C, L, G, R>, OutOfMemory>
 where
     P: Port + Send,
@@ -454,7 +461,8 @@ where
     requires refused { IsBlankOf R.name R.parts L.seats blanks.refused }
     requires turns { AreTurnBlanks L.turns blanks.turns }
     requires opening { L.opening ≡ settings.now.capacity }
-    requires most { L.most ≡ peak_ordered settings.now }
+    requires most { L.most ≡ peak_ordered L.told settings.now }
+    requires told { L.told ≡ is_some control }
     requires seats { L.seats ≡ 1 }
     requires ports { (seen_of P.Port opened.p0 ≡ L.opened 0)
         × (seen_of P.Port opened.p1 ≡ L.opened 1) × (seen_of P.Port opened.p2 ≡ L.opened 2)
@@ -485,7 +493,8 @@ where
                 × IsBlankOf R.name R.parts L.seats blanks.refused
                 × AreTurnBlanks L.turns blanks.turns
                 × (L.opening ≡ settings.now.capacity)
-                × (L.most ≡ peak_ordered settings.now) × (L.seats ≡ 1)
+                × (L.most ≡ peak_ordered L.told settings.now) × (L.told ≡ is_some control)
+                × (L.seats ≡ 1)
                 × (seen_of P.Port opened.p0 ≡ L.opened 0)
                 × (seen_of P.Port opened.p1 ≡ L.opened 1)
                 × (seen_of P.Port opened.p2 ≡ L.opened 2)

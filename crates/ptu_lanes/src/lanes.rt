@@ -1,18 +1,15 @@
 //! The lanes of a grandmaster, with what each keeps from round to round.
 
-ghost use Rattle.std.specs.Prelude.{◌≡◌, ◌+◌, ◌-◌, ◌*◌, ◌^◌, ◌≤◌, ◌<◌, min, Ok, IfOk};
+ghost use Rattle.std.specs.Prelude.{◌≡◌, ◌+◌, ◌-◌, ◌*◌, ◌^◌, ◌≤◌, min, Ok, IfOk};
 ghost use Rattle.ptu_shared.specs.Turning.{after_rounds};
-ghost use Rattle.ptu_lanes.specs.{Crew.{turns_by}, Orders.{may_be_told, peak_ordered}};
-ghost use Rattle.ptu_lanes.specs.Stretches.{ControlLaneDid, EventLaneDid, LaneDid, SendingLaneDid};
+ghost use Rattle.ptu_lanes.specs.Crew.{turns_by};
+ghost use Rattle.ptu_lanes.specs.Stretches.{EventLaneDid, SendingLaneDid};
 ghost use Rattle.ptu_lanes.specs.Waiting.{PassedBy, rights};
 
 use crate::delays::delay_round;
-use crate::orders::{ControlPort, Order};
 use crate::service::Service;
-use crate::signaling::control_round;
 use crate::turns::turn_round;
 use ptu_admit::InForce;
-use ptu_config::GmSettings;
 use ptu_outside::{Ahead, Clock, Meeting, Port};
 use ptu_shared::{PortTally, Rates, Seat, Turner};
 use ptu_units::{Moment, OutOfMemory};
@@ -28,7 +25,7 @@ pub(crate) struct ControlLane<P: Port, C: Clock, G: Ledger, R: Ledger> {
     pub clock: C,
     pub tally: PortTally,
     /// The port by which an operator speaks, where there is one.
-    pub control: Option<ControlPort<P>>,
+    pub control: Option<P>,
     /// The class of the Announces.
     pub class: u8,
     /// The capacity that was put in force last.
@@ -187,21 +184,6 @@ pub(crate) struct Lanes<P: Port, C: Clock, L: Rates, G: Ledger, R: Ledger> {
 }
 
 impl<P: Port + Send, L: Rates, G: Ledger, R: Ledger, W: Wait> Service<'_, P, L, G, R, W> {
-    // A round of the lane that takes Signaling.
-    fn take_signaling<C: Clock>(
-        &self,
-        mut lane: ControlLane<P, C, G, R>,
-    ) -> Result<ControlLane<P, C, G, R>, OutOfMemory>
-        requires ledger { L.parts ≡ 4 }
-        requires counts { (lane.seat.granted ≤ 2 ^ 55) × (lane.seat.refused ≤ 2 ^ 55) }
-        ensures { IfOk result
-            (ControlLaneDid P.Port C.Clock L.most self.now.base.now.config.now 1 lane) }
-    {
-        let control = control_round(self, &mut lane.seat, &mut lane.port, &mut lane.clock)?;
-        lane.tally = lane.tally.plus(control.sent, control.failed);
-        Ok(lane)
-    }
-
     // Once all other lanes have come to the meeting, waits until a datagram is there to receive or
     // a message may be due, as long as the port does. So what was granted in this round counts, and
     // the other lanes sleep meanwhile. Where a lane has given up it does not wait.
@@ -242,62 +224,8 @@ impl<P: Port + Send, L: Rates, G: Ledger, R: Ledger, W: Wait> Service<'_, P, L, 
         lane
     }
 
-    // The lane that takes Signaling behind the meeting of a round, once the order that came in it
-    // is obeyed. The other lanes wait for that where it is not the end.
-    fn obey_any<C: Clock>(
-        &self,
-        rounds: &Rounds,
-        order: Option<Order>,
-        lane: ControlLane<P, C, G, R>,
-    ) -> Result<ControlLane<P, C, G, R>, OutOfMemory> {
-        let mut lane = lane;
-        lane.done = lane.done.saturating_add(1);
-        let Some(order) = order else {
-            return Ok(lane);
-        };
-        let lane = self.obey(order, lane);
-        if order.is_end() {
-            return lane;
-        }
-        let (lane, _) = rounds.met(self.base.rt, lane)?;
-        Ok(lane)
-    }
-
-    /// So many rounds of the lane that takes Signaling, with a meeting after each, or less where an
-    /// order stops it. An order that changes something is obeyed behind the meeting.
-    ///
-    /// # Errors
-    /// `OutOfMemory`, with the lane dropped: after the round in which it or another lane gave up.
-    pub(crate) fn take_part_signaling<C: Clock>(
-        &self,
-        settings: &GmSettings,
-        rounds: &Rounds,
-        count: u64,
-        lane: ControlLane<P, C, G, R>,
-    ) -> Result<ControlLane<P, C, G, R>, OutOfMemory>
-        requires ledger { (L.parts ≡ 4) × (L.told ≡ may_be_told settings.now)
-            × (L.most ≡ peak_ordered settings.now) }
-        requires count { lane.done + count < 2 ^ 42 }
-        requires counts { lane.seat.granted + lane.seat.refused ≤ 2048 * lane.done }
-        ensures did { IfOk result (LaneDid P.Port C.Clock settings.now
-            self.now.base.now.config.now lane.done lane) }
-        ensures all { IfOk result (λ new. (new.done ≤ lane.done + count)
-            × (new.stopped ≡ false → new.done ≡ lane.done + count)) }
-    {
-        let mut lane = lane;
-        let _ = settings;
-        for _i in 0..count {
-            let taken = self.take_order(rounds, self.take_signaling(lane));
-            let ((next, order), _) = rounds.met(self.base.rt, taken)?;
-            lane = self.obey_any(rounds, order, next)?;
-            if lane.stopped {
-                return Ok(lane);
-            }
-        }
-        Ok(lane)
-    }
-
-    /// All rounds of the lane that takes Delay_Reqs, with a meeting after each.
+    /// The rounds of the lane that takes Delay_Reqs, with a meeting after each: all, or less where
+    /// an order stops them.
     ///
     /// # Errors
     /// `OutOfMemory`, with the lane dropped: after the round in which it or another lane gave up.
@@ -308,7 +236,7 @@ impl<P: Port + Send, L: Rates, G: Ledger, R: Ledger, W: Wait> Service<'_, P, L, 
     ) -> Result<EventLane<P, C>, OutOfMemory>
         requires config { self.now.base.now.config.now ≡ L.config }
         requires fresh { lane.done ≡ 0 }
-        ensures did { IfOk result (λ new. EventLaneDid P.Port C.Clock new.done lane new) }
+        ensures { IfOk result (λ new. EventLaneDid P.Port C.Clock new.done lane new) }
     {
         let mut lane = lane;
         for i in 0..rounds.count {
@@ -317,13 +245,14 @@ impl<P: Port + Send, L: Rates, G: Ledger, R: Ledger, W: Wait> Service<'_, P, L, 
             lane = next;
             lane.done = i + 1;
             if !rounds.goes_on(self.base.rt, ahead)? {
-                break;
+                return Ok(lane);
             }
         }
         Ok(lane)
     }
 
-    /// All rounds of a lane that turns tables, with a meeting after each.
+    /// The rounds of a lane that turns tables, with a meeting after each: all, or less where an
+    /// order stops them.
     ///
     /// # Errors
     /// `OutOfMemory`, with the lane dropped: after the round in which another lane gave up.
@@ -332,7 +261,8 @@ impl<P: Port + Send, L: Rates, G: Ledger, R: Ledger, W: Wait> Service<'_, P, L, 
         rounds: &Rounds,
         lane: SendingLane<C, L>,
     ) -> Result<SendingLane<C, L>, OutOfMemory>
-        requires { self.now.base.now.config.now ≡ L.config }
+        requires config { self.now.base.now.config.now ≡ L.config }
+        requires fresh { lane.done ≡ 0 }
         ensures { IfOk result (λ new. SendingLaneDid C.Clock new.done lane new) }
     {
         let mut lane = lane;
@@ -342,7 +272,7 @@ impl<P: Port + Send, L: Rates, G: Ledger, R: Ledger, W: Wait> Service<'_, P, L, 
             lane = next;
             lane.done = i + 1;
             if !rounds.goes_on(self.base.rt, ahead)? {
-                break;
+                return Ok(lane);
             }
         }
         Ok(lane)

@@ -10,6 +10,7 @@ mod crew;
 mod delays;
 mod lanes;
 mod laws;
+mod obeying;
 mod orders;
 mod service;
 mod serving;
@@ -18,7 +19,7 @@ mod turns;
 
 pub use delays::{Delays, delay_round};
 pub use laws::sample_changes;
-pub use orders::ControlPort;
+pub use orders::{answer, next_order};
 pub use service::{Base, Service};
 pub use serving::{Ended, Totals, serve_lanes, serve_lanes_within};
 pub use signaling::{Control, control_round};

@@ -1,15 +1,14 @@
 //! A grandmaster that is served by lanes, from its ports to its last numbers.
 
-ghost use Rattle.std.specs.Prelude.{◌≡◌, ◌+◌, ◌-◌, ◌^◌, ◌≤◌, ◌<◌, min, [], IfOk};
+ghost use Rattle.std.specs.Prelude.{◌≡◌, ◌+◌, ◌-◌, ◌^◌, ◌≤◌, ◌<◌, min, [], true, is_some, IfOk};
 ghost use Rattle.ptu_shared.specs.{Blanks.{IsBlankOf}, Opening.{seen_of}};
 ghost use Rattle.ptu_config.specs.Limits.{IsGmInRange};
 ghost use Rattle.ptu_shared.specs.Turning.{AreTurnBlanks};
 ghost use Rattle.ptu_lanes.specs.Orders.{peak_ordered};
-ghost use Rattle.ptu_lanes.specs.{Crew.{turns_by}, Ended.{HasEnded}, Served.{TablesAreBack, TablesSent}};
+ghost use Rattle.ptu_lanes.specs.{Crew.{AreTogether, IsWith, turns_by}, Ended.{HasEnded}, Served.{TablesAreBack, TablesSent}};
 
 use crate::crew::{Done, call_all};
 use crate::lanes::{Lanes, SendingLane};
-use crate::orders::ControlPort;
 use crate::service::Base;
 use ptu_admit::Closed;
 use ptu_config::GmSettings;
@@ -45,10 +44,10 @@ pub struct Totals {
 pub enum Ended<P: Port, C> {
     /// Lanes did all rounds, or less where an order stopped them. Here are the ports and clocks, the
     /// control port, where there is one, and the last numbers.
-    Served(Opened<P, C>, Option<ControlPort<P>>, Totals),
+    Served(Opened<P, C>, Option<P>, Totals),
     /// A lane was refused its thread, before the first datagram was taken. Here are the ports and
     /// clocks as they were opened.
-    Refused(Opened<P, C>, Option<ControlPort<P>>),
+    Refused(Opened<P, C>, Option<P>),
 }
 
 // What the ports of the tables were sent, and that of the lane that takes Signaling.
@@ -87,7 +86,9 @@ fn failed_by(tallies: &Tallies, control: u64, event: u64) -> u128
 // another number would be a fault.
 fn are_together<P: Port, C: Clock, L: Rates, G: Ledger, R: Ledger>(
     lanes: &Lanes<P, C, L, G, R>,
-) -> bool {
+) -> bool
+    ensures { result ≡ true → AreTogether lanes.now }
+{
     let done = lanes.control.done;
     let sending = &lanes.sending;
     lanes.event.done == done
@@ -98,7 +99,9 @@ fn are_together<P: Port, C: Clock, L: Rates, G: Ledger, R: Ledger>(
 }
 
 // The lane did so many rounds, if it turns tables.
-fn is_with<C: Clock, L: Rates>(lane: &SendingLane<C, L>, done: u64) -> bool {
+fn is_with<C: Clock, L: Rates>(lane: &SendingLane<C, L>, done: u64) -> bool
+    ensures { result ≡ true → IsWith done lane.now }
+{
     !lane.turner.may_turn_any() || lane.done == done
 }
 
@@ -108,7 +111,7 @@ fn close<P: Port + Send, C: Clock, L: Rates, G: Ledger, R: Ledger>(
     shared: Shared<P, L, G, R>,
     mut seats: Vec<Seat<G, R>>,
     lanes: Lanes<P, C, L, G, R>,
-) -> Result<(Opened<P, C>, Option<ControlPort<P>>, Totals), OutOfMemory>
+) -> Result<(Opened<P, C>, Option<P>, Totals), OutOfMemory>
     requires ledger { (L.parts ≡ 4) × (L.seats ≡ 1) × (G.parts ≡ 1) × (R.parts ≡ 1) }
     requires seats { seats.items ≡ [] }
     ensures ports { IfOk result (λ r. (r.0.p4 ≡ lanes.control.port) × (r.0.p5 ≡ lanes.event.port)) }
@@ -121,6 +124,8 @@ fn close<P: Port + Send, C: Clock, L: Rates, G: Ledger, R: Ledger>(
     ensures totals { IfOk result (λ r. (r.2.granted ≡ lanes.control.seat.granted)
         × (r.2.refused ≡ lanes.control.seat.refused)) }
     ensures held { IfOk result (λ r. r.2.held ≤ lanes.control.in_force) }
+    ensures together { IfOk result (λ r. AreTogether lanes
+        × (r.2.rounds ≡ lanes.control.done) × (r.1 ≡ lanes.control.control)) }
     ensures sent { IfOk result (λ r. TablesSent P.Port L.told L.config L.opened r.0
         lanes.control.tally.sent r.2.sent (turns_by lanes.sending)) }
 {
@@ -173,7 +178,7 @@ fn serve_under<P, C, L, G, R, W>(
     blanks: Blanks,
     settings: &GmSettings,
     opened: Opened<P, C>,
-    control: Option<ControlPort<P>>,
+    control: Option<P>,
 ) -> Result<Ended<P, C>, OutOfMemory>
 where
     P: Port + Send,
@@ -187,7 +192,8 @@ where
     requires refused { IsBlankOf R.name R.parts L.seats blanks.refused }
     requires turns { AreTurnBlanks L.turns blanks.turns }
     requires opening { L.opening ≡ settings.now.capacity }
-    requires most { L.most ≡ peak_ordered settings.now }
+    requires most { L.most ≡ peak_ordered L.told settings.now }
+    requires told { L.told ≡ is_some control }
     requires seats { L.seats ≡ 1 }
     requires ports { (seen_of P.Port opened.p0 ≡ L.opened 0)
         × (seen_of P.Port opened.p1 ≡ L.opened 1) × (seen_of P.Port opened.p2 ≡ L.opened 2)
@@ -226,7 +232,7 @@ pub fn serve_lanes_within<P, C, W>(
     settings: &GmSettings,
     config: &GmConfig,
     opened: Opened<P, C>,
-    control: Option<ControlPort<P>>,
+    control: Option<P>,
 ) -> Result<Ended<P, C>, OutOfMemory>
 where
     P: Port + Send,
@@ -265,7 +271,7 @@ pub fn serve_lanes<P, C, W>(
     settings: &GmSettings,
     config: &GmConfig,
     opened: Opened<P, C>,
-    control: Option<ControlPort<P>>,
+    control: Option<P>,
 ) -> Result<Ended<P, C>, OutOfMemory>
 where
     P: Port + Send,
