@@ -10,6 +10,7 @@ use Rattle.ptu_messages.specs.declared.fault.MessageFault.{MessageFault}
 use Rattle.ptu_messages.specs.declared.fault.MessageFault.TheVariants as messages
 use Rattle.ptu_history.specs.declared.client.Client.{Client}
 use Rattle.ptu_script.specs.declared.cause.Cause.{Cause}
+use Rattle.ptu_lines.specs.declared.cause.LineCause.TheVariants as line_causes
 use Rattle.ptu_script.specs.declared.cause.Cause.TheVariants as causes
 use Rattle.ptu_report_lines.specs.declared.decision.Decision.{Decision}
 use Rattle.ptu_report_lines.specs.declared.decision.Decision.TheVariants as decisions
@@ -113,7 +114,7 @@ IsMaster None = Unit {0}
 IsMaster (Some master) = IsAddress master
 
 abbrev pub IsCause : Cause → Type 0
-IsCause (causes.Field number) = IsNumber number
+IsCause (causes.Line (line_causes.Field number)) = IsNumber number
 IsCause _ = Unit {0}
 
 abbrev pub IsStatement : Statement → Type 0
