@@ -5,7 +5,7 @@ use Rattle.std.specs.List.{All}
 use Rattle.ptu_units.specs.declared.kind.Kind.{Kind}
 use Rattle.ptu_outside.specs.declared.{arrival.Arrival.{Arrival}, clock.Clock.{Ghosts as Clocks}}
 use Rattle.ptu_outside.specs.declared.{opened.Opened.{Opened}, port.Port.{Ghosts as Ports}}
-use Rattle.ptu_outside.specs.{Departure.{Departure}, Faults.{HasRisen}}
+use Rattle.ptu_outside.specs.{Departure.{Departure}, Faults.{HasRisen}, Rounds.{most}}
 use Rattle.ptu_history.specs.declared.client.Client.{Client}
 use Rattle.ptu_profile.specs.declared.grandmaster.GmConfig.{GmConfig}
 use Rattle.ptu_shared.specs.{Histories.{SendsLawfully}, Opening.{HaveFailed, Seen, seen_of}, Turning.{Turns, turns_in}}
@@ -32,9 +32,9 @@ pub record IsControlled {P : Type 0} (ports : Ports P) (settings : GmSettings) (
   pub early : List Exchange
   pub shed : List (Client × Kind)
   pub late : List Exchange
-  pub early_are : datagrams early ≡ take (64 * early_rounds settings) waited
-  pub all_are : datagrams (early ++ late) ≡ take (64 * all_rounds settings) waited
-  pub rest : left ≡ drop (64 * all_rounds settings) waited
+  pub early_are : datagrams early ≡ take (most * early_rounds settings) waited
+  pub all_are : datagrams (early ++ late) ≡ take (most * all_rounds settings) waited
+  pub rest : left ≡ drop (most * all_rounds settings) waited
   pub unchanged : IfNone (change_of settings) (shed ≡ [])
   pub answered : All (IsAnswered (peak_capacity settings) config) (early ++ late)
   pub told : WasSent ports port port' (replies_around config early shed late)
@@ -52,9 +52,9 @@ pub record ExchangedAll {P C : Type 0} (ports : Ports P) (clocks : Clocks C) (se
   pub early : List Exchange
   pub shed : List (Client × Kind)
   pub late : List Exchange
-  pub early_few : length early ≤ 64 * early_rounds settings
-  pub late_few : length late ≤ 64 * (all_rounds settings - early_rounds settings)
-  pub few : length (early ++ late) ≤ 64 * all_rounds settings
+  pub early_few : length early ≤ most * early_rounds settings
+  pub late_few : length late ≤ most * (all_rounds settings - early_rounds settings)
+  pub few : length (early ++ late) ≤ most * all_rounds settings
   pub unchanged : IfNone (change_of settings) (shed ≡ [])
   pub given : IfSome (ports.waiting port') (λ later. ports.waiting port ≡ Some (datagrams (early ++ late) ++ later))
   pub answered : All (IsAnswered (peak_capacity settings) config) (early ++ late)
@@ -151,8 +151,8 @@ pub record ServesByLanes {P C : Type 0} (ports : Ports P) (clocks : Clocks C) (s
   pub exchanged : ExchangedAll ports clocks settings config opened.p4 closed.p4 opened.c0 closed.c0 numbers.granted numbers.refused
   -- likewise the port of the event channel, which was sent nothing, and goes on to tell that
   pub event : ¬ HasRisen (ports.faults opened.p5) (ports.faults closed.p5) →
-      GaveFirst (64 * all_rounds settings) (ports.waiting opened.p5) (ports.waiting closed.p5)
-  pub took : Took ports clocks (64 * all_rounds settings) 0 opened.p5 closed.p5 opened.c1 closed.c1
+      GaveFirst (most * all_rounds settings) (ports.waiting opened.p5) (ports.waiting closed.p5)
+  pub took : Took ports clocks (most * all_rounds settings) 0 opened.p5 closed.p5 opened.c1 closed.c1
   pub missed : MissedFew ports (all_rounds settings) opened.p5 closed.p5
   pub unsent : ports.sent closed.p5 ≡ ports.sent opened.p5
   -- each lane that turns tables took a moment of its clock for each of its tables and each round

@@ -3,6 +3,7 @@ use Rattle.std.specs.Prelude.{◌≡◌, ℕ, Bool, ◌+◌, ◌-◌, ◌*◌, �
 use Rattle.std.specs.List.{All}
 use Rattle.ptu_outside.specs.declared.{arrival.Arrival.{Arrival}, clock.Clock.{Ghosts as Clocks}}
 use Rattle.ptu_outside.specs.{declared.port.Port.{Ghosts as Ports}, Faults.{HasNotFallen, HasRisen}}
+use Rattle.ptu_outside.specs.Rounds.{most}
 use Rattle.ptu_profile.specs.declared.grandmaster.GmConfig.{GmConfig}
 use Rattle.ptu_shared.specs.{Opening.{HaveFailed}, Seats.{SeatCounts}, Turning.{Turns, after_rounds}}
 use Rattle.ptu_lanes.specs.Rounds.{Exchange, Exchanged, IsAnswered, asks_in, datagrams, grants_in, replies}
@@ -17,8 +18,8 @@ pub record AreRounds {P : Type 0} (ports : Ports P) (greatest : ℕ) (config : G
   pub waited : List Arrival
   pub all : ports.waiting port ≡ Some waited
   pub exchanges : List Exchange
-  pub first : datagrams exchanges ≡ take (64 * rounds) waited
-  pub rest : left ≡ drop (64 * rounds) waited
+  pub first : datagrams exchanges ≡ take (most * rounds) waited
+  pub rest : left ≡ drop (most * rounds) waited
   pub answered : All (IsAnswered greatest config) exchanges
   pub told : WasSent ports port port' (replies config exchanges)
   pub goes_on : GoesOn ports port port' (replies config exchanges)
@@ -41,7 +42,7 @@ pub record TookSignaling {P C : Type 0} (ports : Ports P) (clocks : Clocks C) (g
   pub sent : ℕ
   pub more : ℕ
   pub exchanged : Exchanged ports clocks greatest config rounds sent more port port' clock clock' old new
-  pub most : new.granted + new.refused ≤ old.granted + old.refused + 2048 * rounds
+  pub most : new.granted + new.refused ≤ old.granted + old.refused + 32 * most * rounds
   pub sends : CountsSends gone sent gone'
   pub failures : CountsFailures ports.counts_once (ports.faults port) (ports.faults port') failed failed'
   pub no_fall : HasNotFallen (ports.faults port) (ports.faults port')
@@ -54,8 +55,8 @@ ControlLaneDid ports clocks greatest config rounds old new =
 -- what the lane that takes Delay_Reqs did in so many rounds: its port, its clock and how many receives failed, before and after; the
 -- port was sent nothing, and goes on to tell that
 pub record TookDelayReqs {P C : Type 0} (ports : Ports P) (clocks : Clocks C) (rounds : ℕ) (port port' : P) (clock clock' : C) (failed failed' : ℕ) : Type 0 where
-  pub gave : ¬ HasRisen (ports.faults port) (ports.faults port') → GaveFirst (64 * rounds) (ports.waiting port) (ports.waiting port')
-  pub took : Took ports clocks (64 * rounds) 0 port port' clock clock'
+  pub gave : ¬ HasRisen (ports.faults port) (ports.faults port') → GaveFirst (most * rounds) (ports.waiting port) (ports.waiting port')
+  pub took : Took ports clocks (most * rounds) 0 port port' clock clock'
   pub unsent : ports.sent port' ≡ ports.sent port
   pub missed : MissedFew ports rounds port port'
   pub failures : CountsFailures ports.counts_once (ports.faults port) (ports.faults port') failed failed'
