@@ -3,13 +3,12 @@ use Rattle.std.proofs.Common.{◌≡◌, ◌∙◌, ℕ, suc, zero, ◌+◌, ◌
 use Rattle.std.specs.{Prelude.{IfNone, IfOk, IfSome, option_map}, List.{All, AllByRecursion, items_where_true}}
 use Rattle.std.proofs.lemmas.{List.{append-nil, drop-drop, map-append}, List.Elements.{All-append}}
 use Rattle.std.proofs.{lemmas.List.Sums.{sum_by-append}, Math.Seq.{take-add}}
-use Rattle.ptu_units.specs.declared.kind.Kind.{Kind}
+use Rattle.ptu_units.specs.declared.{client.Client.{Client}, kind.Kind.{Kind}}
 use Rattle.ptu_outside.specs.declared.{arrival.Arrival.{Arrival}, opened.Opened.{Opened}}
 use Rattle.ptu_outside.specs.declared.{clock.Clock.{Ghosts as Clocks}, port.Port.{Ghosts as Ports}}
 use Rattle.ptu_outside.specs.{Departure.{Departure}, Telling.{IfTold, TellsOn}}
 use Rattle.ptu_outside.specs.{Faults.{HasRisen, HasNotFallen}, HandsOver.{HandsOver, SentOf}}
 use Rattle.ptu_outside.proofs.HandsOver.{goes_on_both, none_failed, not_fallen_both, rises_first, rises_second, told_both}
-use Rattle.ptu_history.specs.declared.client.Client.{Client}
 use Rattle.ptu_profile.specs.declared.grandmaster.GmConfig.{GmConfig}
 use Rattle.ptu_shared.specs.{Histories.{SendsLawfully}, Opening.{HaveFailed, Seen, seen_of}, Seats.{SeatCounts, no_verdicts}, Turning.{Turns}}
 use Rattle.ptu_shared.proofs.Failing.{failed-append, failed_hands, failed_none}

@@ -2,11 +2,10 @@
 -- project's own choice).
 use Rattle.std.specs.Prelude.{◌≡◌, ℕ, suc, zero, ◌+◌, ◌-◌, ◌*◌, ◌^◌, ◌≤◌, min, true, List, [], ◌++◌, length, map, take, drop, Option, Some, IfNone, IfSome}
 use Rattle.std.specs.List.{All}
-use Rattle.ptu_units.specs.declared.kind.Kind.{Kind}
+use Rattle.ptu_units.specs.declared.{client.Client.{Client}, kind.Kind.{Kind}}
 use Rattle.ptu_outside.specs.declared.{arrival.Arrival.{Arrival}, clock.Clock.{Ghosts as Clocks}}
 use Rattle.ptu_outside.specs.declared.{opened.Opened.{Opened}, port.Port.{Ghosts as Ports}}
 use Rattle.ptu_outside.specs.{Departure.{Departure}, Faults.{HasRisen}, Rounds.{most}}
-use Rattle.ptu_history.specs.declared.client.Client.{Client}
 use Rattle.ptu_profile.specs.declared.grandmaster.GmConfig.{GmConfig}
 use Rattle.ptu_shared.specs.{Histories.{SendsLawfully}, Opening.{HaveFailed, Seen, seen_of}, Turning.{Turns, turns_in}}
 use Rattle.ptu_gm_messages.specs.Replies.{cancels_to}

@@ -3,9 +3,8 @@ use Rattle.std.proofs.Common.{◌≡◌, ℕ, suc, ◌≤◌, nat_le, true, List
 use Rattle.std.specs.{Fmt.{signed_decimal}, List.{list_all}}
 use Rattle.std.proofs.lemmas.List.{length-append}
 use Rattle.hex.specs.Hex.{encode_lower}
-use Rattle.ptu_units.specs.declared.kind.Kind.{Kind}
+use Rattle.ptu_units.specs.declared.{client.Client.{Client}, kind.Kind.{Kind}}
 use Rattle.ptu_units.specs.{Kind.{kind_of}, Log.{IsLogOf}}
-use Rattle.ptu_history.specs.declared.client.Client.{Client}
 use Rattle.ptu_messages.specs.declared.header_fault.HeaderFault.{HeaderFault}
 use Rattle.ptu_messages.specs.declared.header_fault.HeaderFault.TheVariants as headers
 use Rattle.ptu_messages.specs.declared.tlvs_fault.TlvFault.{TlvFault}

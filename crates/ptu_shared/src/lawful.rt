@@ -3,7 +3,7 @@
 //! table's port was sent are messages of it, and its turns are counted.
 
 ghost use Rattle.std.specs.Prelude.{◌≡◌, ◌≤◌, ◌+◌, ℕ, IfOk, IfSome, OnOk, [], max, option_map};
-ghost use Rattle.ptu_history.specs.Client.{table_of};
+ghost use Rattle.ptu_units.specs.Client.{table_of};
 ghost use Rattle.ptu_shard.specs.{Answered.{moment_of_answer}, Table.{StandsFor}};
 ghost use Rattle.ptu_shared.specs.{Answers.{AnswersAsk}, Delays.{IsLaterIfTooSoon}};
 ghost use Rattle.ptu_shared.specs.{Histories.{SendsCounted}, Opening.{seen_of}};
@@ -17,12 +17,11 @@ use crate::rates::Rates;
 use crate::table::Table;
 use crate::turning::{TurnBook, TurnsOf, audit_turns};
 use ptu_admit::{Cancelled, Resized, Verdict};
-use ptu_history::Client;
 use ptu_messages::Header;
 use ptu_outside::Port;
 use ptu_profile::GmConfig;
 use ptu_shard::{Answered, Turned};
-use ptu_units::{Kind, Moment, OutOfMemory};
+use ptu_units::{Client, Kind, Moment, OutOfMemory};
 use std::marker::Model;
 use std::sync::ledger::{Book, Ledger, Share};
 
