@@ -1,7 +1,7 @@
 -- What a table goes on with by its own records alone.
 use Rattle.std.proofs.Common.{◌≡◌, ◌∙◌, ℕ, ◌≤◌, max, ◌++◌, List, [], ◌∷◌, Bool, true, false, eqb, map, refl, sym, subst, arith, append-nil, append_assoc}
 use Rattle.std.proofs.lemmas.Bool.{eq-eqb, eqb-true, true≢false}
-use Rattle.ptu_history.specs.{declared.client.Client.{Client}, Client.{table_of}}
+use Rattle.ptu_units.specs.{declared.client.Client.{Client}, Client.{table_of}}
 use Rattle.ptu_history.specs.History.{Record, Granted, Short, Capacity, moment_of}
 use Rattle.ptu_history.specs.{Moments.{book_moment, book_part, table_part}, Live.{Grant}}
 use Rattle.ptu_history.specs.{Shedding.{shed_record}, Step.{verdict_records}}

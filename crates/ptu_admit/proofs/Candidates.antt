@@ -8,7 +8,8 @@ use Rattle.std.proofs.lemmas.List.{map-append, map_more}
 use Rattle.std.proofs.lemmas.Option.{get_or_from_slice_get, slice_get_within}
 use Rattle.std.proofs.lemmas.List.Elements.{All-contains, All-from_recursion}
 use Rattle.std.proofs.lemmas.List.Sorted.{Contains-permutation}
-use Rattle.ptu_history.specs.{Client.{client_cmp, kind_cmp}, Shedding.{shed_cmp}}
+use Rattle.ptu_units.specs.Client.{client_cmp, kind_cmp}
+use Rattle.ptu_history.specs.Shedding.{shed_cmp}
 use Rattle.ptu_history.proofs.Unique.{Contains-cons_cases}
 use Rattle.ptu_shard.specs.{declared.lease.Row.{Row}, Table.{Kept}}
 use Rattle.ptu_history.proofs.Order.{kind_cmp_is}

@@ -2,12 +2,13 @@
 use Rattle.std.proofs.Common.{◌≡◌, ◌∙◌, inl, ℕ, ◌+◌, ◌<◌, ◌≤◌, max, ◌++◌, List, [], ◌∷◌, Bool, true, false, not, ◌||◌, cond, eqb, ltb, refl, sym, ap, subst, arith, ℤ, Some}
 use Rattle.std.proofs.lemmas.Bool.{eq-eqb, eqb-true, false_from_ne_true, false≢true, not-true, true≢false}
 use Rattle.ptu_units.specs.declared.kind.Kind.{Kind}
-use Rattle.ptu_history.specs.{declared.client.Client.{Client}, Client.{table_of}}
+use Rattle.ptu_units.specs.{declared.client.Client.{Client}, Client.{table_of}}
 use Rattle.ptu_history.specs.History.{Record, Granted, Short, Ended, Shed, capacity_in_force, concerns, is_change, is_decision, moment_of}
 use Rattle.ptu_history.specs.Moments.{book_moment, book_part, table_part}
 use Rattle.ptu_history.specs.Live.{Grant, IsLastDecision, last_decision, live_grants, standing}
 use Rattle.ptu_history.specs.Verdict.{table_rates}
-use Rattle.ptu_history.proofs.{Capacities.{capacity_in_force-unchanged}, Keys.{same_lease-true}}
+use Rattle.ptu_units.proofs.Keys.{same_lease-true}
+use Rattle.ptu_history.proofs.Capacities.{capacity_in_force-unchanged}
 use Rattle.ptu_history.proofs.{Moments.{book_moment-one}, Rates.{table_below}}
 use Rattle.ptu_history.proofs.Standing.{last_pushed}
 use Rattle.ptu_shard.specs.{declared.lease.Row.{Row}, Row.{share_of}, Table.{Kept, StandsAt}}

@@ -2,8 +2,7 @@
 use Rattle.std.proofs.Common.{◌≡◌, ◌∙◌, ℕ, zero, suc, ◌+◌, ◌≤◌, ◌++◌, List, [], ◌∷◌, take, slice_get, cond, Some, ap, arith}
 use Rattle.std.specs.Prelude.{nat_lt}
 use Rattle.std.proofs.lemmas.List.{Elements.{filter-append}, Sums.{sum_by-append, sum_by-cons}}
-use Rattle.ptu_units.specs.declared.kind.Kind.{Kind}
-use Rattle.ptu_history.specs.Client.{same_kind}
+use Rattle.ptu_units.specs.{declared.kind.Kind.{Kind}, Client.{same_kind}}
 use Rattle.ptu_shard.specs.{declared.lease.Row.{Row}, Row.{share_of}}
 use Rattle.ptu_shard.proofs.RowLists as row_lists
 use Rattle.ptu_admit.specs.{LiveRows.{rows_of_kind}, Rows.{live_rows}}

@@ -5,8 +5,9 @@ use Rattle.std.specs.Option.{option_map_or}
 use Rattle.std.proofs.lemmas.{Bool.{false_from_ne_true, true≢false}, List.Sums.{sum_by-cons}}
 use Rattle.std.proofs.lemmas.Nat.{pow_pos}
 use Rattle.ptu_units.specs.{declared.kind.Kind.{Kind}, Log.{rate_of}}
-use Rattle.ptu_history.specs.{declared.client.Client.{Client}, Client.{same_lease}}
-use Rattle.ptu_history.proofs.{Keys.{same_lease-refl, same_lease-true}, Standing.{Contains-filter}}
+use Rattle.ptu_units.specs.{declared.client.Client.{Client}, Client.{same_lease}}
+use Rattle.ptu_units.proofs.Keys.{same_lease-refl, same_lease-true}
+use Rattle.ptu_history.proofs.Standing.{Contains-filter}
 use Rattle.ptu_history.proofs.Unique.{Apart, Apart-from_pairs, Contains-cons_cases, Contains-from_filter}
 use Rattle.ptu_shard.specs.declared.lease.{Lease.{Lease}, Row.{Row}}
 use Rattle.ptu_shard.specs.Row.{IsDistinctByLease, is_row_of, lease_of, share_of}

@@ -4,14 +4,15 @@ use Rattle.std.specs.{List.{All, list_any}, List.Sorted.{IsPermutation}}
 use Rattle.std.proofs.lemmas.{Bool.{false≢true}, List.Elements.{All-head, All-tail}}
 use Rattle.std.proofs.lemmas.List.Sums.{sum_by-cons}
 use Rattle.ptu_units.specs.declared.kind.{Kind.{Kind}, Kind.TheVariants.{DelayResp}}
-use Rattle.ptu_history.specs.{declared.client.Client.{Client}, Client.{table_of}}
+use Rattle.ptu_units.specs.{declared.client.Client.{Client}, Client.{table_of}}
 use Rattle.ptu_history.specs.History.{Record, Looked, Sent, is_change}
 use Rattle.ptu_history.specs.Moments.{book_moment, book_part, greatest_by}
 use Rattle.ptu_history.specs.Events.{Answer, Answered, NoGrant, TooSoon}
 use Rattle.ptu_history.specs.{Live.{Grant, IsLastDecision}, Step.{answer_records, delay_answer}}
 use Rattle.ptu_history.specs.Turns.{due_grants, sent_record}
 use Rattle.ptu_history.proofs.AfterSteps.{capacity_in_force-quiet, sent_unchanged}
-use Rattle.ptu_history.proofs.{Keys.{same_lease-true}, Moments.{book_moment-none, greatest-sent}}
+use Rattle.ptu_units.proofs.Keys.{same_lease-true}
+use Rattle.ptu_history.proofs.Moments.{book_moment-none, greatest-sent}
 use Rattle.ptu_history.proofs.Orders.{due_grants-table}
 use Rattle.ptu_shard.specs.{declared.lease.Row.{Row}, Row.{share_of}, Table.{StandsAt}}
 use Rattle.ptu_shard.specs.Turn.{spent_row, spent_where}

@@ -4,11 +4,13 @@ use Rattle.std.specs.{List.{Contains, filter}, List.Sorted.{IsSorted}, Ordering.
 use Rattle.std.proofs.lemmas.Bool.{le-leb, lt-leb, lt-ltb}
 use Rattle.std.proofs.lemmas.List.Elements.{Contains-append_cases, Contains-append_left, Contains-append_right}
 use Rattle.std.proofs.lemmas.List.Sorted.{sum_by-IsPermutation}
-use Rattle.ptu_history.specs.{Client.{same_lease, table_of}, History.{Record, Granted, Shed}}
+use Rattle.ptu_units.specs.Client.{same_lease, table_of}
+use Rattle.ptu_history.specs.History.{Record, Granted, Shed}
 use Rattle.ptu_history.specs.Live.{Grant, IsLastDecision, last_decision, live_grants}
 use Rattle.ptu_history.specs.{Order.{in_order}, Verdict.{rate_sum}}
 use Rattle.ptu_history.specs.Shedding.{shed_cmp, shed_order, shed_prefix}
-use Rattle.ptu_history.proofs.{Keys.{same_lease-sym, same_lease-true}, Members.{Differ}}
+use Rattle.ptu_units.proofs.Keys.{same_lease-sym, same_lease-true}
+use Rattle.ptu_history.proofs.Members.{Differ}
 use Rattle.ptu_history.proofs.Order.{IsAsymmetric-total, IsPermutation-in_order, IsSorted-in_order, shed_cmp-total}
 use Rattle.ptu_history.proofs.Orders.{shed_order-distinct, shed_order-members, shed_order-only}
 use Rattle.ptu_history.proofs.{Rates.{rates-tables, table_below}, Standing.{last_pushed}}

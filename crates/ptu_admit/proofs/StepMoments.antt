@@ -1,7 +1,8 @@
 -- The moments of steps, by the tables and by the history.
 use Rattle.std.proofs.Common.{◌≡◌, ◌∙◌, ℕ, ◌≤◌, max, List, [], ◌∷◌, Bool, true, false, ◌||◌, cond, eqb, refl, ap, subst, arith}
 use Rattle.std.proofs.lemmas.Bool.{eqb-true, false≢true}
-use Rattle.ptu_history.specs.{declared.client.Client.{Client}, Client.{table_of}, History.{Record}}
+use Rattle.ptu_units.specs.{declared.client.Client.{Client}, Client.{table_of}}
+use Rattle.ptu_history.specs.History.{Record}
 use Rattle.ptu_history.specs.Moments.{book_moment, table_moment}
 use Rattle.ptu_history.specs.Core.{book_step_moment, table_step_moment}
 use Rattle.ptu_admit.specs.Book.{KeptBook}

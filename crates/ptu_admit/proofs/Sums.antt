@@ -5,9 +5,10 @@ use Rattle.std.specs.Option.{option_map, option_map_or}
 use Rattle.std.proofs.lemmas.{Bool.{true≢false}, List.Filters.{sum_by-filter_both}}
 use Rattle.std.proofs.lemmas.List.{Sorted.{sum_by-IsPermutation}, Sums.{sum_by-cons}}
 use Rattle.ptu_units.specs.{declared.kind.Kind.{Kind}, Log.{rate_of}}
-use Rattle.ptu_history.specs.{declared.client.Client.{Client}, Client.{same_lease}}
+use Rattle.ptu_units.specs.{declared.client.Client.{Client}, Client.{same_lease}}
 use Rattle.ptu_history.specs.{Live.{Grant, is_of, without}, Verdict.{rate_sum}}
-use Rattle.ptu_history.proofs.{Keys.{same_lease-refl, same_lease-true}, Members.{Differ}}
+use Rattle.ptu_units.proofs.Keys.{same_lease-refl, same_lease-true}
+use Rattle.ptu_history.proofs.Members.{Differ}
 use Rattle.ptu_history.proofs.Standing.{Contains-filter}
 use Rattle.ptu_history.proofs.Unique.{Apart, Apart-from_pairs, Contains-cons_cases, Contains-first, Contains-later}
 use Rattle.ptu_laws.proofs.Sums.{sum-filter}

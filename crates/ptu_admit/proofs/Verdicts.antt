@@ -3,7 +3,7 @@ use Rattle.std.proofs.Common.{◌≡◌, ◌∙◌, inl, ℕ, zero, suc, ◌+◌
 use Rattle.std.specs.{Prelude.{IsOk}, List.{Contains}, List.Sorted.{IsPermutation}}
 use Rattle.std.proofs.lemmas.{Bool.{eq-eqb, eqb-true}, List.Kept.{AllPairs-filter}}
 use Rattle.ptu_units.specs.declared.kind.Kind.{Kind}
-use Rattle.ptu_history.specs.{declared.client.Client.{Client}, Client.{table_of}}
+use Rattle.ptu_units.specs.{declared.client.Client.{Client}, Client.{table_of}}
 use Rattle.ptu_history.specs.History.{Record, Granted, Shed, Short, capacity_in_force}
 use Rattle.ptu_history.specs.Moments.{book_moment}
 use Rattle.ptu_history.specs.Verdict as history

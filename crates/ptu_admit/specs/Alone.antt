@@ -1,6 +1,6 @@
 -- What a table stands for by its own records alone, which need no book.
 use Rattle.std.specs.Prelude.{◌≡◌, ℕ, ◌≤◌, List, [], ◌∷◌, ◌++◌}
-use Rattle.ptu_history.specs.{declared.client.Client.{Client}, Client.{table_of}}
+use Rattle.ptu_units.specs.{declared.client.Client.{Client}, Client.{table_of}}
 use Rattle.ptu_history.specs.{Moments.{book_moment}, Step.{verdict_records}}
 use Rattle.ptu_history.specs.History.{Record, Granted, Short, Ended, Capacity, Shed, Looked, Sent}
 use Rattle.ptu_shard.specs.Table.{Kept, StandsBeside, StandsFor}

@@ -1,8 +1,7 @@
 -- The rows of a table whose grants are live, and how many there are of each kind.
 use Rattle.std.specs.Prelude.{◌≡◌, ◌≤◌, ℕ, ◌+◌, List, count_by}
-use Rattle.ptu_units.specs.declared.kind.Kind.{Kind}
+use Rattle.ptu_units.specs.{declared.kind.Kind.{Kind}, Client.{same_kind}}
 use Rattle.ptu_units.specs.declared.kind.Kind.TheVariants.{Announce, Sync, DelayResp}
-use Rattle.ptu_history.specs.Client.{same_kind}
 use Rattle.ptu_shard.specs.{declared.lease.Row.{Row}, Row.{share_of}}
 use Rattle.ptu_admit.specs.declared.live.Live.{Live}
 

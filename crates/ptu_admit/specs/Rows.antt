@@ -1,7 +1,7 @@
 -- Rows of a table at a moment.
 use Rattle.std.specs.{Prelude.{ℕ, Bool, false, List, nat_lt}, List.{filter}, Option.{option_map_or}}
 use Rattle.ptu_units.specs.{declared.kind.Kind.{Kind}, Log.{rate_of}}
-use Rattle.ptu_history.specs.declared.client.Client.{Client}
+use Rattle.ptu_units.specs.declared.client.Client.{Client}
 use Rattle.ptu_shard.specs.{declared.lease.Row.{Row}, Row.{lease_of}}
 
 -- the rows whose grants are not over at the moment

@@ -1,7 +1,6 @@
 -- What a grant and a shortage say.
 use Rattle.std.specs.Prelude.{ℕ, ℤ}
-use Rattle.ptu_units.specs.declared.kind.Kind.{Kind}
-use Rattle.ptu_history.specs.declared.client.Client.{Client}
+use Rattle.ptu_units.specs.declared.{client.Client.{Client}, kind.Kind.{Kind}}
 
 -- what was granted: to a client a kind at a logarithm, at a moment, for so many seconds, until the end of the granted duration
 pub record Terms : Type 0 where

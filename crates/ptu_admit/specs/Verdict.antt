@@ -1,7 +1,7 @@
 -- What is answered to a REQUEST_UNICAST_TRANSMISSION (IEEE 1588-2019 clause 16.1.4.1).
 use Rattle.std.specs.Prelude.{◌≡◌, ℕ, ◌+◌, ◌*◌, min, Option, Some, None, Result, Ok, Err, ℤ, nat_le, if◌then◌else◌}
 use Rattle.ptu_units.specs.{declared.kind.Kind.{Kind}, Log.{rate_of}}
-use Rattle.ptu_history.specs.declared.client.Client.{Client}
+use Rattle.ptu_units.specs.declared.client.Client.{Client}
 use Rattle.ptu_history.specs.Verdict as history
 use Rattle.ptu_history.specs.Verdict.{Config, GrantedFor, OutsideCause, OutsideCode, OutsideDuration, OutsideLog, ShortOf, profile}
 use Rattle.ptu_messages.specs.declared.tlv.Ask.{Ask}

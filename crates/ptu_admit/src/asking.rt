@@ -2,7 +2,8 @@
 
 ghost use Rattle.std.specs.Prelude.{◌≡◌, ℕ, ◌+◌, ◌-◌, ◌≤◌, ◌<◌, max, false, List, [], ◌∷◌, ◌++◌, IfSome, IfNone, OnSome};
 ghost use Rattle.std.specs.Option.{option_map};
-ghost use Rattle.ptu_history.specs.{Client.{table_of as table_of_client}, History.{Record}};
+ghost use Rattle.ptu_units.specs.Client.{table_of as table_of_client};
+ghost use Rattle.ptu_history.specs.History.{Record};
 ghost use Rattle.ptu_history.specs.{Verdict.{verdict}, Events.{Request}};
 ghost use Rattle.ptu_history.specs.Step.{step, verdict_records};
 ghost use Rattle.ptu_shard.specs.Row.{share_of};
@@ -16,12 +17,11 @@ use crate::granting::{decide_swept, fits_beside, grant};
 use crate::profile::{Wanted, wanted_by};
 use crate::sweeping::sweep_all;
 use crate::verdict::Verdict;
-use ptu_history::{Client, table_of};
 use ptu_messages::Ask;
 use ptu_outside::Port;
 use ptu_profile::GmConfig;
 use ptu_shard::Shard;
-use ptu_units::Moment;
+use ptu_units::{Client, Moment, table_of};
 
 /// Decides an ask over the client's table alone, at the greatest of `t`, the book's moment and the
 /// table's, where the total shows that it fits. `None` exactly where the total, less what the

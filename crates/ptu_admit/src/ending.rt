@@ -1,7 +1,8 @@
 //! The ends of grants: a cancel, and the closing of all tables.
 
 ghost use Rattle.std.specs.Prelude.{◌≡◌, ℕ, ◌+◌, ◌≤◌, max, false, List, ◌∷◌, ◌++◌};
-ghost use Rattle.ptu_history.specs.{Client.{table_of as table_of_client}, History.{Record}};
+ghost use Rattle.ptu_units.specs.Client.{table_of as table_of_client};
+ghost use Rattle.ptu_history.specs.History.{Record};
 ghost use Rattle.ptu_history.specs.{Live.{live}, Verdict.{Config, table_rates}, Events.{Cancel}};
 ghost use Rattle.ptu_history.specs.Step.{step};
 ghost use Rattle.ptu_shard.specs.Row.{share_of};
@@ -11,10 +12,9 @@ ghost use Rattle.ptu_admit.specs.{Rows.{has_live_row}, Tables.{IsSwept, KeepsPor
 
 use crate::book::Book;
 use crate::sweeping::{latest_of, sweep_all};
-use ptu_history::Client;
 use ptu_outside::Port;
 use ptu_shard::Shard;
-use ptu_units::{Kind, Moment};
+use ptu_units::{Client, Kind, Moment};
 
 /// The answer to a cancel.
 #[derive(Clone, Copy, Debug, PartialEq, Eq)]

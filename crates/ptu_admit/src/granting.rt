@@ -1,9 +1,9 @@
 //! Grants on a table that is lent beside the book.
 
 ghost use Rattle.std.specs.Prelude.{◌≡◌, ◌≢◌, ℕ, ◌+◌, ◌-◌, ◌*◌, ◌≤◌, ◌<◌, min, nat_le, List, [], ◌∷◌, ◌++◌, IfSome, IfNone};
-ghost use Rattle.ptu_units.specs.Log.{period_of, rate_of};
+ghost use Rattle.ptu_units.specs.{Client.{table_of}, Log.{period_of, rate_of}};
 ghost use Rattle.ptu_admit.specs.Book.{IsInForce};
-ghost use Rattle.ptu_history.specs.{Client.{table_of}, History.{Record, Granted}};
+ghost use Rattle.ptu_history.specs.History.{Record, Granted};
 ghost use Rattle.ptu_history.specs.Step.{verdict_records};
 ghost use Rattle.ptu_shard.specs.{Row.{IsDistinctByLease, share_of}, Table.{StandsBeside}};
 ghost use Rattle.ptu_admit.specs.{Rows.{kept_rate}, Tables.{KeepsPort}};
@@ -12,12 +12,11 @@ ghost use Rattle.ptu_admit.specs.Verdict.{IsAt, IsFor, OnOutside, config_of, ver
 use crate::book::Book;
 use crate::profile::Wanted;
 use crate::verdict::{Grant, Shortage, Verdict};
-use ptu_history::Client;
 use ptu_outside::Port;
 use ptu_profile::GmConfig;
 use ptu_shard::{Lease, Shard};
 use ptu_units::timescale::NANOS_PER_SECOND;
-use ptu_units::{Kind, Log, Moment, period, rate};
+use ptu_units::{Client, Kind, Log, Moment, period, rate};
 
 /// What the total has beside the client's own row of the kind, in sixteenths of a message per
 /// second.

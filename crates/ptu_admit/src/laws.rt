@@ -2,7 +2,7 @@
 //! law.
 
 ghost use Rattle.std.specs.Prelude.{◌≡◌, ℕ, ◌≤◌, ◌⊎◌, max, true, List, [], ◌∷◌, ◌++◌};
-ghost use Rattle.ptu_history.specs.{declared.client.Client.{Client}, Client.{table_of}};
+ghost use Rattle.ptu_units.specs.{declared.client.Client.{Client}, Client.{table_of}};
 ghost use Rattle.ptu_history.specs.Core.{book_step_moment, table_step_moment};
 ghost use Rattle.ptu_history.specs.{Events.{DelayReq, Turn}, History.{Record}};
 ghost use Rattle.ptu_history.specs.Step.{step};

@@ -2,7 +2,7 @@
 
 ghost use Rattle.std.specs.Prelude.{◌≡◌, ◌≤◌, ◌<◌, ◌+◌, ◌^◌, [], ◌∷◌, cond};
 ghost use Rattle.ptu_units.specs.declared.kind.Kind.TheVariants.{Announce, Sync, DelayResp};
-ghost use Rattle.ptu_history.specs.Client.{same_kind};
+ghost use Rattle.ptu_units.specs.Client.{same_kind};
 ghost use Rattle.ptu_shard.specs.Row.{IsDistinctByLease, share_of};
 ghost use Rattle.ptu_admit.specs.{LiveRows.{AreFew, HasMore, no_grants}, Rows.{live_rows}};
 

@@ -4,9 +4,8 @@ ghost use Rattle.std.specs.{Prelude.{◌≡◌, [], ◌∷◌, false, IfNone, If
 ghost use Rattle.std.specs.{List.Sorted.{IsPermutation}, Ordering.{is_lt}};
 ghost use Rattle.ptu_admit.specs.Newest.{candidate_cmp};
 
-use ptu_history::Client;
 use ptu_shard::Row;
-use ptu_units::Kind;
+use ptu_units::{Client, Kind};
 use std::collections::BinaryHeap;
 use std::marker::Model;
 

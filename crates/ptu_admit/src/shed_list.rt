@@ -1,7 +1,6 @@
 //! The grants that a change of capacity ended, as the caller gets them.
 
-use ptu_history::Client;
-use ptu_units::{Kind, Listed, Log};
+use ptu_units::{Client, Kind, Listed, Log};
 
 /// A grant that was shed.
 #[derive(Clone, Copy)]

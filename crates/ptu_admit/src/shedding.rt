@@ -2,8 +2,8 @@
 
 ghost use Rattle.std.specs.Prelude.{◌≡◌, ℕ, ◌+◌, ◌-◌, ◌<◌, ◌≤◌, false, List, [], ◌∷◌, ◌++◌, map, length, vec_capacity, IfNone, IfSome};
 ghost use Rattle.std.specs.List.{Contains};
-ghost use Rattle.ptu_units.specs.Log.{rate_of};
-ghost use Rattle.ptu_history.specs.{Client.{same_lease}, History.{Record, Shed as ShedRecord}};
+ghost use Rattle.ptu_units.specs.{Client.{same_lease}, Log.{rate_of}};
+ghost use Rattle.ptu_history.specs.History.{Record, Shed as ShedRecord};
 ghost use Rattle.ptu_history.specs.Shedding.{shed_order, shed_prefix};
 ghost use Rattle.ptu_shard.specs.declared.lease.Row.{Row as KeptRow};
 ghost use Rattle.ptu_shard.specs.{Row.{IsDistinctByLease, share_of}, Table.{StandsBeside}};

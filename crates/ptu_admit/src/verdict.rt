@@ -4,8 +4,7 @@
 ghost use Rattle.std.specs.Prelude.{◌≡◌, ◌<◌, ◌+◌, ◌*◌};
 
 use crate::profile::Wanted;
-use ptu_history::Client;
-use ptu_units::{Kind, Log, Moment};
+use ptu_units::{Client, Kind, Log, Moment};
 use std::marker::Model;
 
 /// The answer to an ask (IEEE 1588-2019 clause 16.1.4.1).

@@ -7,8 +7,8 @@ use Rattle.ptu_lines.specs.Script.{ScriptLine, Whole, Refused}
 use Rattle.ptu_report.specs.declared.ending.Ending.TheVariants as endings
 use Rattle.ptu_report.specs.Rules.{Outcome, Goes, Refuses, closing, ending_after, ending_at, meaning_after, meaning_at, texts_at, texts_until}
 use Rattle.ptu_laws.specs.Promises.{KeepsPromises}
-use Rattle.ptu_units.specs.Log.{IsLogOf}
-use Rattle.ptu_history.specs.{declared.client.Client.{Client}, History.{Record}}
+use Rattle.ptu_units.specs.{declared.client.Client.{Client}, Log.{IsLogOf}}
+use Rattle.ptu_history.specs.History.{Record}
 use Rattle.ptu_trail.specs.declared.cause.Shedding.{Shedding}
 use Rattle.ptu_trail.specs.Faults.{AreInRange, IsFaultless, IsInRange, record_of}
 use Rattle.ptu_audit_lines.specs.declared.entry.Decision.{Decision}

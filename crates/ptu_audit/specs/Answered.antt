@@ -5,7 +5,7 @@ use Rattle.ptu_units.specs.{declared.kind.Kind.{Kind}, Kind.{code_of}}
 use Rattle.ptu_messages.specs.declared.header.PortIdentity.{PortIdentity}
 use Rattle.ptu_messages.specs.declared.tlv.Tlv.{Tlv}
 use Rattle.ptu_messages.specs.declared.tlv.Tlv.TheVariants as tlvs
-use Rattle.ptu_history.specs.declared.client.Client.{Client}
+use Rattle.ptu_units.specs.declared.client.Client.{Client}
 use Rattle.ptu_audit_lines.specs.declared.entry.Decision.{Decision}
 use Rattle.ptu_audit_lines.specs.declared.entry.Decision.TheVariants as decisions
 use Rattle.ptu_audit.specs.declared.line.Said.{Said}

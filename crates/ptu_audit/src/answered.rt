@@ -5,10 +5,9 @@ ghost use Rattle.ptu_audit.specs.Answered as specs;
 
 use crate::line::Said;
 use ptu_audit_lines::Decision;
-use ptu_history::Client;
 use ptu_messages::{PortIdentity, Tlv};
-use ptu_units::Kind;
 use ptu_units::timescale::NANOS_PER_SECOND;
+use ptu_units::{Client, Kind};
 
 // Whether the TLV is a GRANT that invites a renewal, of the code and logarithm, from one moment to
 // another, in nanoseconds.

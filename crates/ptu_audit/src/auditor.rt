@@ -19,7 +19,7 @@ use crate::line::{Line, said_by};
 use crate::texts::Refusal;
 use ptu_audit_lines::{Entry, ReportLine, read_line};
 use ptu_lines::LineCause;
-use ptu_report::{Reporter, Texts};
+use ptu_report::{Reporter, Stepped, Texts};
 use ptu_trail::NoCause;
 use ptu_units::OutOfMemory;
 use ptu_units::sizes::LONGEST_DATAGRAM;
@@ -150,12 +150,7 @@ impl Auditor {
     }
 
     // Takes a line of a script's line, or refuses it.
-    fn take_entry(
-        &mut self,
-        number: u32,
-        script: u64,
-        entry: &Entry<'_>,
-    ) -> Result<Option<AuditCause>, OutOfMemory>
+    fn take_entry(&mut self, number: u32, script: u64, entry: &Entry<'_>) -> Stepped<AuditCause>
         ensures { IfOk result (λ refused. (r : Reading) → StandsFor self.old r →
             IsOutcome (line_read r number (Some (report.At script entry.now)))
             (StandsFor self.new) [] refused) }
@@ -227,13 +222,7 @@ impl Reporter for ReportReader {
 
     #[inline(always)]
     #[tactic(auto, unfolding(crate::specs::Reading::audit_rules))]
-    fn take(
-        &mut self,
-        _: Global,
-        number: u64,
-        line: &[u8],
-        _: &mut Texts,
-    ) -> Result<Option<AuditCause>, OutOfMemory> {
+    fn take(&mut self, _: Global, number: u64, line: &[u8], _: &mut Texts) -> Stepped<AuditCause> {
         // (a report has at most 67108864 lines, so the number of each fits 32 bits)
         match read_line(line, &mut self.room) {
             None => Ok(Some(AuditCause::Form)),
@@ -248,12 +237,7 @@ impl Reporter for ReportReader {
     }
 
     #[tactic(auto, unfolding(crate::specs::Reading::audit_rules))]
-    fn close(
-        &mut self,
-        _: Global,
-        _: u64,
-        texts: &mut Texts,
-    ) -> Result<Option<AuditCause>, OutOfMemory> {
+    fn close(&mut self, _: Global, _: u64, texts: &mut Texts) -> Stepped<AuditCause> {
         if !self.auditor.ended {
             return Ok(Some(AuditCause::End));
         }

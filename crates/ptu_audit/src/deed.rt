@@ -1,8 +1,7 @@
 //! What a report says that a grandmaster did.
 
-use ptu_history::Client;
 use ptu_trail::{NoCause, Shedding};
-use ptu_units::{Kind, Listed, Log, Stamp};
+use ptu_units::{Client, Kind, Listed, Log, Stamp};
 
 /// The grants that a change of capacity sheds, in order. A clause sees them as their list.
 pub(crate) type Sheddings = Listed<Shedding>;

@@ -9,11 +9,10 @@ use crate::answered::{is_answered_by, tells_of};
 use crate::deed::{Act, Deed, Sheddings};
 use crate::line::{Line, Said};
 use ptu_audit_lines::Decision;
-use ptu_history::Client;
 use ptu_messages::{PortIdentity, Tlv, TlvList};
 use ptu_trail::Shedding;
-use ptu_units::OutOfMemory;
 use ptu_units::sizes::MOST_TLVS;
+use ptu_units::{Client, OutOfMemory};
 use std::alloc::{AllocError, Global};
 
 /// Whether the group has this number of a script's line.

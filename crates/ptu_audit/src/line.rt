@@ -5,9 +5,8 @@ ghost use Rattle.ptu_messages.specs.Reading.{message_in};
 ghost use Rattle.ptu_audit.specs.Lines as specs;
 
 use ptu_audit_lines::{Decision, Entry};
-use ptu_history::Client;
 use ptu_messages::{Body, Message, MessageFault, PortIdentity, TlvList, read_message};
-use ptu_units::{Kind, OutOfMemory, Stamp};
+use ptu_units::{Client, Kind, OutOfMemory, Stamp};
 use std::alloc::Global;
 
 /// What stands behind the number of a line. Moments are in nanoseconds, capacities in sixteenths of

@@ -1,9 +1,8 @@
 //! What a line of a finished report says, as types of their own. They share no code with the types
 //! by which `replay` writes a report.
 
-use ptu_history::Client;
 use ptu_lines::LentOctets;
-use ptu_units::{Kind, Log};
+use ptu_units::{Client, Kind, Log};
 
 /// What a grandmaster decided on a REQUEST or a CANCEL of a Signaling (IEEE 1588-2019 clause
 /// 16.1.4), as a line says it. Moments are in nanoseconds, rates and capacities in sixteenths of a

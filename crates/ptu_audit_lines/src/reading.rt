@@ -11,8 +11,8 @@ use crate::words::{
     channel_field, hex_field, identity_field, ip_field, kind_field, literal, log_field,
     log_outside_field, no_word, number_field,
 };
-use ptu_history::Client;
 use ptu_lines::WordList;
+use ptu_units::Client;
 use ptu_units::sizes::LONGEST_DATAGRAM;
 
 fn granted(line: &WordList) -> Option<Decision>

@@ -33,7 +33,7 @@ pub use gm::gm_settings;
 pub use key::Key;
 pub use master::{MasterList, MasterSetting};
 pub use refusal::RefusalLine;
-pub use settings::{GmSettings, SlaveSettings};
+pub use settings::{GmSettings, MOST_DATAGRAMS, SlaveSettings};
 pub use setup::{gm_setup, slave_setup};
 pub use setup_fault::SetupFault;
 pub use slave::slave_settings;

@@ -10,6 +10,9 @@ use ptu_units::{
     UdpPortNumber, WaitToRestore,
 };
 
+/// How many datagrams of a channel a daemon takes in a round at most (the project's own choice).
+pub const MOST_DATAGRAMS: u32 = 64;
+
 /// The settings of a grandmaster's daemon.
 #[derive(Clone, Copy, Debug, PartialEq, Eq)]
 pub struct GmSettings {

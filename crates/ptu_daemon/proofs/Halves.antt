@@ -3,7 +3,7 @@ use Rattle.std.proofs.Common.{◌≡◌, ◌≢◌, ℕ, ◌+◌, ◌%◌, Bool,
 use Rattle.std.specs.List.{AllByRecursion, items_where_true}
 use Rattle.std.proofs.lemmas.Bool.{ne_eqb}
 use Rattle.ptu_units.specs.declared.kind.{Kind.{Kind}, Kind.TheVariants.{Announce, Sync, DelayResp}}
-use Rattle.ptu_units.specs.Kind.{code_of}
+use Rattle.ptu_units.specs.{declared.client.Client.{Client}, Client.{table_of}, Kind.{code_of}}
 use Rattle.ptu_units.specs.Number.{low_nibble_at}
 use Rattle.ptu_outside.specs.declared.channel.Channel.TheVariants as channels
 use Rattle.ptu_outside.specs.Departure.{Departure}
@@ -12,7 +12,6 @@ use Rattle.ptu_messages.specs.{declared.header_fault.HeaderFault.{HeaderFault}, 
 use Rattle.ptu_messages.proofs.HeaderReadings.{found_is}
 use Rattle.ptu_messages.specs.declared.tlv.{Tlv.{Tlv}, Tlv.TheVariants.{Cancel}}
 use Rattle.ptu_messages.specs.declared.message.Message.{Message}
-use Rattle.ptu_history.specs.{declared.client.Client.{Client}, Client.{table_of}}
 use Rattle.ptu_history.specs.{Core.{core_moment}, Counts.{counts}}
 use Rattle.ptu_history.specs.Events as events
 use Rattle.ptu_history.specs.{Events.{Answer}, History.{Record, Granted, Short, Ended, Shed, Looked, Sent}, Runs.{sequence_number}}

@@ -1,11 +1,11 @@
 -- What any events make a grandmaster send is lawful.
 use Rattle.std.proofs.Common.{◌≡◌, ◌∙◌, ℕ, ◌+◌, ◌++◌, List, [], ◌∷◌, map, flat_map, length, Result, Ok, Err, refl, sym, ap, subst, arith, append_assoc}
 use Rattle.std.proofs.lemmas.List.{length-map, map-append}
-use Rattle.ptu_units.specs.Limits.{IsCapacity}
+use Rattle.ptu_units.specs.{declared.client.Client.{Client}, Limits.{IsCapacity}}
 use Rattle.ptu_messages.specs.declared.header.Header.{Header}
 use Rattle.ptu_messages.specs.declared.tlv.Tlv.{Tlv}
 use Rattle.ptu_outside.specs.Departure.{Departure}
-use Rattle.ptu_history.specs.{declared.client.Client.{Client}, Core.{core_history, history_after}}
+use Rattle.ptu_history.specs.Core.{core_history, history_after}
 use Rattle.ptu_history.specs.{History.{Record}, Verdict.{Config}}
 use Rattle.ptu_laws.proofs.Promises.{core_keeps}
 use Rattle.ptu_profile.specs.Grandmaster.{IsWithinLimits}

@@ -7,7 +7,7 @@ use Rattle.ptu_units.specs.{declared.kind.Kind.{Kind}, Kind.{kind_of}}
 use Rattle.ptu_messages.specs.declared.header.Header.{Header}
 use Rattle.ptu_messages.specs.Sent.{octets_sent}
 use Rattle.ptu_outside.specs.Departure.{Departure}
-use Rattle.ptu_history.specs.{declared.client.Client.{Client}, Client.{table_of}}
+use Rattle.ptu_units.specs.{declared.client.Client.{Client}, Client.{table_of}}
 use Rattle.ptu_history.specs.{Core.{core_moment, core_step, history_after}, Counts.{counts}}
 use Rattle.ptu_history.specs.Events as events
 use Rattle.ptu_history.specs.Events.{Answer}

@@ -2,7 +2,8 @@
 use Rattle.std.proofs.Common.{◌≡◌, ◌↔◌, ℕ, ◌+◌, ◌%◌, ◌<◌, ◌==◌, Bool, true, false, if◌then◌else◌, List, [], ◌∷◌, map, refl, sym, ap, ap₂, subst, arith, Result, Ok, Err}
 use Rattle.ptu_outside.specs.{declared.port.Port.{Ghosts as Ports}, Departure.{Departure}}
 use Rattle.ptu_messages.specs.declared.header.Header.{Header}
-use Rattle.ptu_history.specs.{Client.{table_of}, Core.{history_after, table_step_moment}}
+use Rattle.ptu_units.specs.Client.{table_of}
+use Rattle.ptu_history.specs.Core.{history_after, table_step_moment}
 use Rattle.ptu_history.specs.{History.{Record}, Step.{delay_answer}}
 use Rattle.ptu_shard.specs.declared.answered.Answered.{Answered}
 use Rattle.ptu_shard.specs.Answered.{failed_by, met_by, moment_of_answer, responses, sent_by}

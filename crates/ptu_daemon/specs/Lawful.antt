@@ -4,7 +4,8 @@ use Rattle.std.specs.Prelude.{◌≡◌, ℕ, ◌==◌, if◌then◌else◌, fil
 use Rattle.std.specs.List.{cons_option}
 use Rattle.ptu_outside.specs.Departure.{Departure}
 use Rattle.ptu_messages.specs.declared.tlv.Tlv.{Tlv}
-use Rattle.ptu_history.specs.{Client.{table_of}, History.{Record, Sent}}
+use Rattle.ptu_units.specs.Client.{table_of}
+use Rattle.ptu_history.specs.History.{Record, Sent}
 use Rattle.ptu_laws.specs.Promises.{KeepsPromises}
 use Rattle.ptu_gm_messages.specs.declared.heard.Heard.TheVariants as heard
 use Rattle.ptu_gm_messages.specs.declared.item.Item.TheVariants as items

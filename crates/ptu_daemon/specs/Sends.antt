@@ -2,7 +2,8 @@
 -- Signaling messages.
 use Rattle.std.specs.Prelude.{ℕ, ◌==◌, if◌then◌else◌, List, [], ◌∷◌, ◌++◌, map, Result, Ok, Err}
 use Rattle.ptu_outside.specs.Departure.{Departure}
-use Rattle.ptu_history.specs.{Client.{table_of}, Core.{core_moment, history_after}, Counts.{counts}}
+use Rattle.ptu_units.specs.Client.{table_of}
+use Rattle.ptu_history.specs.{Core.{core_moment, history_after}, Counts.{counts}}
 use Rattle.ptu_history.specs.Events as events
 use Rattle.ptu_history.specs.{History.{Record}, Shedding.{shed_grants}, Step.{delay_answer}}
 use Rattle.ptu_history.specs.Turns.{due_grants, message_of}

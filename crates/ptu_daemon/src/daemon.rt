@@ -1,6 +1,7 @@
 //! A grandmaster with the port of its event channel and its clock, and the rounds that it does.
 
 ghost use Rattle.std.specs.Prelude.{◌≡◌, ◌<◌, ◌+◌, ◌*◌, ◌^◌, ◌∷◌, [], true, IfOk};
+ghost use Rattle.ptu_outside.specs.Rounds.{most};
 ghost use Rattle.ptu_grandmaster.specs.declared.driving.GmEvent.{GmEvent};
 ghost use Rattle.ptu_config.specs.Limits.{IsGmInRange};
 ghost use Rattle.ptu_daemon.specs.Events.{change_in, change_to, taking, turns};
@@ -12,15 +13,12 @@ use crate::events;
 use crate::next::Next;
 use crate::obeying::Obeyed;
 use ptu_admit::InForce;
-use ptu_config::GmSettings;
+use ptu_config::{GmSettings, MOST_DATAGRAMS};
 use ptu_grandmaster::{Gm, SIGNALING_PORT};
 use ptu_outside::{Channel, Clock, Failed, Port, Tally};
 use ptu_units::sizes::LONGEST_DATAGRAM;
 use ptu_units::{Capacity, Moment, OutOfMemory};
 use std::alloc::Global;
-
-/// How many datagrams of a channel a round takes at most.
-const MOST: u32 = 64;
 
 /// A grandmaster as a daemon.
 #[derive(Drop)]
@@ -164,11 +162,11 @@ impl<P: Port, C: Clock> Daemon<P, C> {
     fn take_channel(&mut self, channel: Channel) -> Result<Tally, OutOfMemory>
         ensures took { IfOk result (λ tally.
             TookChannel P.Port C.Clock channel self.old self.new tally) }
-        ensures small { IfOk result (λ tally. IsSmall 64 tally) }
+        ensures small { IfOk result (λ tally. IsSmall most tally) }
     {
         let mut buf = [0; LONGEST_DATAGRAM];
         let mut tally = Tally::default();
-        for _ in 0..MOST {
+        for _ in 0..MOST_DATAGRAMS {
             match self.take_next(channel, &mut buf)? {
                 Next::Taken(more) => tally = tally.plus(more),
                 Next::Nothing => return Ok(tally),

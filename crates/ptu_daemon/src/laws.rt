@@ -1,8 +1,7 @@
 //! What holds of all that a grandmaster sends. Each function does nothing: its contract is the law.
 
 ghost use Rattle.std.specs.{Prelude.{◌≡◌, ℕ, List, false}, List.{AllByRecursion}};
-ghost use Rattle.ptu_units.specs.declared.kind.Kind.{Kind};
-ghost use Rattle.ptu_history.specs.declared.client.Client.{Client};
+ghost use Rattle.ptu_units.specs.declared.{client.Client.{Client}, kind.Kind.{Kind}};
 ghost use Rattle.ptu_profile.specs.declared.grandmaster.GmConfig.{GmConfig};
 ghost use Rattle.ptu_gm_messages.specs.Replies.{cancels_to};
 ghost use Rattle.ptu_grandmaster.specs.declared.driving.GmEvent.{GmEvent};

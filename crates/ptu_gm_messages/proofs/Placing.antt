@@ -2,7 +2,8 @@
 use Rattle.std.proofs.Common.{◌≡◌, ℕ, ◌++◌, List, [], ◌∷◌, map, Option, Some, None, refl, sym, ap, ◌∙◌}
 use Rattle.std.specs.List.{cons_option, filter_map}
 use Rattle.std.proofs.lemmas.List.{append-nil, map-append}
-use Rattle.ptu_history.specs.{declared.client.Client.{Client}, History.{Record}, Verdict.{Config}}
+use Rattle.ptu_units.specs.declared.client.Client.{Client}
+use Rattle.ptu_history.specs.{History.{Record}, Verdict.{Config}}
 use Rattle.ptu_history.specs.{Events.{Event}, Core.{core_step, history_after}}
 use Rattle.ptu_gm_messages.specs.declared.item.Item.{Item}
 use Rattle.ptu_gm_messages.specs.Deciding.{decision_of, decisions_of, event_of, events_of_items, item_records, placed}

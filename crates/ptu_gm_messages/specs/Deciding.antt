@@ -2,10 +2,10 @@
 -- (IEEE 1588-2019 clause 16.1; the moments are the project's own choice).
 use Rattle.std.specs.Prelude.{ℕ, List, [], ◌∷◌, ◌++◌, map, filter_map, Bool, Option, Some, None, option_map, Result, Ok, Err}
 use Rattle.std.specs.Option.{option_map_or}
-use Rattle.ptu_units.specs.Kind.{kind_of}
+use Rattle.ptu_units.specs.{declared.client.Client.{Client}, Client.{table_of}, Kind.{kind_of}}
 use Rattle.ptu_messages.specs.declared.header.Header.{Header}
 use Rattle.ptu_messages.specs.declared.tlv.{Ask.{Ask}, Tlv.{Tlv}, Tlv.TheVariants.{Ack}}
-use Rattle.ptu_history.specs.{declared.client.Client.{Client}, Client.{table_of}, History.{Record}}
+use Rattle.ptu_history.specs.History.{Record}
 use Rattle.ptu_history.specs.Verdict as verdicts
 use Rattle.ptu_history.specs.Verdict.{Config, Verdict, GrantedFor, ShortOf, Outside, verdict}
 use Rattle.ptu_history.specs.Live.{live}

@@ -6,7 +6,7 @@ use Rattle.ptu_messages.specs.declared.header.{Header.{Header}, PortIdentity.{Po
 use Rattle.ptu_messages.specs.declared.tlv.{Ask.{Ask}, Tlv.{Tlv}, Tlv.TheVariants.{Grant, Cancel}}
 use Rattle.ptu_messages.specs.{declared.message.Message.{Message}, Sent.{octets_sent, signaling}}
 use Rattle.ptu_outside.specs.{declared.channel.Channel.TheVariants.{General}, Departure.{Departure}}
-use Rattle.ptu_history.specs.declared.client.Client.{Client}
+use Rattle.ptu_units.specs.declared.client.Client.{Client}
 use Rattle.ptu_history.specs.Live as live
 use Rattle.ptu_profile.specs.{declared.grandmaster.GmConfig.{GmConfig}, Grandmaster.{header_of}}
 

@@ -1,12 +1,11 @@
 -- Datagrams that were made out by hand, field by field, and what the definitions say of them.
 use Rattle.std.specs.Prelude.{◌≡◌, ℕ, List, [], ◌∷◌, ◌++◌, map, take, slice_set, negsuc, pos, Ok, Err}
-use Rattle.ptu_units.specs.declared.kind.Kind.TheVariants as kind
+use Rattle.ptu_units.specs.declared.{client.Client.{Client}, kind.Kind.TheVariants as kind}
 use Rattle.ptu_messages.specs.declared.tlv.Ask.{Ask}
 use Rattle.ptu_messages.specs.declared.tlv.Tlv.TheVariants as tlv
 use Rattle.ptu_messages.specs.declared.header_fault.HeaderFault.TheVariants.{Short}
 use Rattle.ptu_messages.specs.declared.fault.MessageFault.TheVariants.{Header}
 use Rattle.ptu_messages.specs.Samples as messages
-use Rattle.ptu_history.specs.declared.client.Client.{Client}
 use Rattle.ptu_history.specs.Events as events
 use Rattle.ptu_profile.specs.declared.grandmaster.GmConfig.{GmConfig}
 use Rattle.ptu_messages.specs.Sent.{octets_sent}

@@ -3,8 +3,8 @@
 ghost use Rattle.std.specs.Prelude.{◌≡◌};
 ghost use Rattle.ptu_gm_messages.specs.Deciding.{client_of};
 
-use ptu_history::Client;
 use ptu_messages::Header;
+use ptu_units::Client;
 
 /// The client of a message with this header, which came from this IPv4 address.
 pub fn client_of(from: u32, header: &Header) -> Client

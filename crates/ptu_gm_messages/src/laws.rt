@@ -5,7 +5,8 @@ ghost use Rattle.std.specs.Prelude.{◌≡◌, ℕ, List, [], ◌∷◌, ◌++�
 ghost use Rattle.ptu_messages.specs.declared.message.Message.{Message};
 ghost use Rattle.ptu_messages.specs.declared.fault.MessageFault.{MessageFault};
 ghost use Rattle.ptu_messages.specs.{Message.{SpellsMessage}, MessageFault.{HasMessageFault}};
-ghost use Rattle.ptu_history.specs.{declared.client.Client.{Client}, Core.{history_after}};
+ghost use Rattle.ptu_units.specs.declared.client.Client.{Client};
+ghost use Rattle.ptu_history.specs.Core.{history_after};
 ghost use Rattle.ptu_history.specs.{History.{Record}, Verdict.{Config}};
 ghost use Rattle.ptu_profile.specs.declared.grandmaster.GmConfig.{GmConfig};
 ghost use Rattle.ptu_gm_messages.specs.declared.item.Item.{Item};

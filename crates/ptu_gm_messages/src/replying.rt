@@ -6,12 +6,11 @@ ghost use Rattle.ptu_messages.specs.Sent.{AlwaysSpells, octets_sent};
 ghost use Rattle.ptu_units.specs.Kind.{code_of};
 ghost use Rattle.ptu_gm_messages.specs.Replies.{identity_of, signaling_of};
 
-use ptu_history::Client;
 use ptu_messages::{PortIdentity, Tlv, ToTlv, write_signaling_of};
 use ptu_profile::GmConfig;
-use ptu_units::Kind;
 use ptu_units::message_types::SIGNALING;
 use ptu_units::sizes::LONGEST_SIGNALING;
+use ptu_units::{Client, Kind};
 
 /// Writes the reply with these answers, to this port and with this sequenceId, to the front of
 /// `out`. It answers the size in octets and leaves the rest of `out` (IEEE 1588-2019 clause

@@ -1,7 +1,7 @@
 -- What a grandmaster stands for after more records, by what its tables, its book and its counts are then.
 use Rattle.std.proofs.Common.{◌≡◌, ℕ, ◌+◌, ◌%◌, ◌++◌, List, [], ◌∷◌, length, map, refl, sym, ap, subst, ◌∙◌, arith, Some}
 use Rattle.ptu_units.specs.{declared.kind.Kind.{Kind}, Kind.{kind_of}}
-use Rattle.ptu_history.specs.{declared.client.Client.{Client}, Client.{table_of}, Counts.{counts}}
+use Rattle.ptu_history.specs.Counts.{counts}
 use Rattle.ptu_history.specs.{History.{Record, Capacity, Ended, Looked}, Live.{Grant}}
 use Rattle.ptu_history.specs.{Moments.{book_moment}, Shedding.{shed_record}}
 use Rattle.ptu_history.specs.Step.{answer_records, delay_answer, verdict_records}
@@ -20,7 +20,7 @@ use Rattle.ptu_gm_messages.specs.declared.item.Item.TheVariants as items
 use Rattle.ptu_gm_messages.specs.Deciding as deciding
 use Rattle.ptu_gm_messages.specs.Deciding.{Judged, asked_by, item_moment, moment_of_verdict, opened_with}
 use Rattle.ptu_grandmaster.specs.Deciding.{Comes, Decides, EndsBy, counting}
-use Rattle.ptu_units.specs.Counts.{counted}
+use Rattle.ptu_units.specs.{declared.client.Client.{Client}, Client.{table_of}, Counts.{counted}}
 use Rattle.ptu_grandmaster.specs.{Gm.{KeptGm, StandsFor, tables}, Outcomes.{found_at}}
 
 -- the counts are those of what came before

@@ -2,7 +2,7 @@
 use Rattle.std.proofs.Common.{◌≡◌, ℕ, ◌+◌, ◌≤◌, ◌++◌, List, Bool, true, false, subst, arith, cond}
 use Rattle.std.specs.Prelude.{◌==◌}
 use Rattle.ptu_messages.specs.declared.tlv.Ask.{Ask}
-use Rattle.ptu_history.specs.{declared.client.Client.{Client}, Client.{table_of}}
+use Rattle.ptu_units.specs.{declared.client.Client.{Client}, Client.{table_of}}
 use Rattle.ptu_history.specs.Events as events
 use Rattle.ptu_history.specs.{History.{Record}, Step.{step}, Verdict.{verdict}}
 use Rattle.ptu_profile.specs.declared.grandmaster.GmConfig.{GmConfig}

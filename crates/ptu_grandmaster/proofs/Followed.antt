@@ -5,10 +5,9 @@ use Rattle.std.specs.Option.{option_map, option_map_or}
 use Rattle.std.proofs.lemmas.{Grind.{flat_map-append}, List.{append-nil, take_more}}
 use Rattle.std.proofs.lemmas.List.Elements.{All-append, All-cons, All-nil}
 use Rattle.ptu_units.specs.declared.kind.{Kind.{Kind}, Kind.TheVariants.{DelayResp}}
-use Rattle.ptu_units.specs.Kind.{kind_of}
-use Rattle.ptu_history.specs.declared.client.Client.{Client}
+use Rattle.ptu_units.specs.{declared.client.Client.{Client}, Client.{table_of}, Kind.{kind_of}}
 use Rattle.ptu_history.specs.Core.{core_history, core_step, history_after, table_step_moment}
-use Rattle.ptu_history.specs.{Client.{table_of}, Counts.{counts}}
+use Rattle.ptu_history.specs.Counts.{counts}
 use Rattle.ptu_history.specs.Events as events
 use Rattle.ptu_history.specs.{Events.{Event}, History.{Record, is_sent}, Lawful.{lawful}}
 use Rattle.ptu_history.specs.{Live.{live}, Step.{delay_answer, verdict_records}, Turns.{due_grants}}

@@ -4,9 +4,11 @@ use Rattle.std.specs.{List.{Contains, filter, sum_by}}
 use Rattle.std.proofs.lemmas.Bool.{eq-eqb, eqb-true, ltb-true}
 use Rattle.std.proofs.lemmas.List.{Filters.{sum_by-filter_both}, Kept.{AllPairs-filter}, Sums.{sum_by-cons}}
 use Rattle.ptu_units.specs.declared.kind.{Kind.{Kind}, Kind.TheVariants.{Announce, Sync, DelayResp}}
-use Rattle.ptu_history.specs.{Client.{same_kind, table_of}, Core.{book_step_moment}, History.{Record}, Moments.{book_moment}, Verdict.{table_rates}}
+use Rattle.ptu_units.specs.Client.{same_kind, table_of}
+use Rattle.ptu_history.specs.{Core.{book_step_moment}, History.{Record}, Moments.{book_moment}, Verdict.{table_rates}}
 use Rattle.ptu_history.specs.Live.{Grant, IsLastDecision, is_of, live_grants, without}
-use Rattle.ptu_history.proofs.{Keys.{same_lease-refl}, Members.{Differ}, Orders.{live_distinct, live_members}, Rates.{rates-tables, table_below}}
+use Rattle.ptu_units.proofs.Keys.{same_lease-refl}
+use Rattle.ptu_history.proofs.{Members.{Differ}, Orders.{live_distinct, live_members}, Rates.{rates-tables, table_below}}
 use Rattle.ptu_history.proofs.{Standing.{Contains-filter}, Unique.{Apart, Apart-from_pairs, Contains-cons_cases, Contains-first, Contains-from_filter, Contains-later}}
 use Rattle.ptu_shard.specs.{declared.lease.Row.{Row}, Row.{IsDistinctByLease, share_of}, Table.{StandsAt}}
 use Rattle.ptu_shard.proofs.RowLists as row_lists

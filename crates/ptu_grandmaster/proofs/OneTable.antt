@@ -2,7 +2,7 @@
 use Rattle.std.proofs.Common.{◌≡◌, ℕ, ◌+◌, ◌++◌, List, [], ◌∷◌, Bool, false, max, refl, ap, subst, ◌∙◌, arith, Option, Some, None}
 use Rattle.std.specs.{Prelude.{IfSome, map}, Option.{OnSome}, List.Sorted.{IsPermutation}}
 use Rattle.ptu_units.specs.declared.kind.Kind.{Kind}
-use Rattle.ptu_history.specs.{declared.client.Client.{Client}, Client.{table_of}}
+use Rattle.ptu_units.specs.{declared.client.Client.{Client}, Client.{table_of}}
 use Rattle.ptu_history.specs.Core.{core_step, table_step_moment}
 use Rattle.ptu_history.specs.Events as events
 use Rattle.ptu_history.specs.{History.{Record}, Live.{live}, Moments.{book_moment}}

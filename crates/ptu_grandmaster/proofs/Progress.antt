@@ -1,7 +1,8 @@
 -- Items that are decided one after the other.
 use Rattle.std.proofs.Common.{◌≡◌, ℕ, ◌+◌, ◌≤◌, ◌++◌, List, [], ◌∷◌, length, take, map, refl, sym, ap, subst, ◌∙◌, arith, length-take}
 use Rattle.std.proofs.lemmas.List.{map-append}
-use Rattle.ptu_history.specs.{declared.client.Client.{Client}, History.{Record}}
+use Rattle.ptu_units.specs.declared.client.Client.{Client}
+use Rattle.ptu_history.specs.History.{Record}
 use Rattle.ptu_history.specs.Core.{history_after}
 use Rattle.ptu_gm_messages.specs.declared.item.Item.{Item}
 use Rattle.ptu_gm_messages.specs.Deciding.{decision_of, decisions_of, events_of_items, item_records, opened_with, placed}

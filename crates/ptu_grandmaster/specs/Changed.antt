@@ -1,8 +1,8 @@
 -- A change of capacity, and its CANCELs.
 use Rattle.std.specs.Prelude.{◌≡◌, ℕ, ◌+◌, List, ◌++◌, length, map}
-use Rattle.ptu_units.specs.declared.kind.Kind.{Kind}
+use Rattle.ptu_units.specs.declared.{client.Client.{Client}, kind.Kind.{Kind}}
 use Rattle.ptu_outside.specs.{declared.port.Port.{Ghosts as Ports}, HandsOver.{HandsOver}}
-use Rattle.ptu_history.specs.{declared.client.Client.{Client}, Core.{book_step_moment, core_step}}
+use Rattle.ptu_history.specs.Core.{book_step_moment, core_step}
 use Rattle.ptu_history.specs.Events as events
 use Rattle.ptu_history.specs.{History.{Record}, Shedding.{shed_grants}}
 use Rattle.ptu_admit.specs.{declared.shed_list.Shed.{Shed}, Lent.{moment_for_all}, Shed.{shed_of}}

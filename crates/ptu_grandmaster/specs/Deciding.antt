@@ -2,7 +2,6 @@
 use Rattle.std.specs.Prelude.{◌≡◌, ℕ, ◌+◌, ◌≤◌, List, ◌++◌}
 use Rattle.ptu_units.specs.declared.kind.Kind.{Kind}
 use Rattle.ptu_messages.specs.declared.tlv.Ask.{Ask}
-use Rattle.ptu_history.specs.{declared.client.Client.{Client}, Client.{table_of}}
 use Rattle.ptu_history.specs.Core.{history_after}
 use Rattle.ptu_history.specs.Events as events
 use Rattle.ptu_history.specs.{History.{Record}, Live.{live}, Step.{step}, Verdict.{verdict}}
@@ -11,7 +10,7 @@ use Rattle.ptu_admit.specs.declared.verdict.Verdict.TheVariants.{Granted, Short,
 use Rattle.ptu_admit.specs.{Lent.{StandFor}, Verdict.{IsAt, verdict_of}}
 use Rattle.ptu_gm_messages.specs.declared.item.Item.{Item}
 use Rattle.ptu_gm_messages.specs.Deciding.{Decision, asked_by, decision_of, decisions_of, events_of_items, item_moment, item_records, opened_with}
-use Rattle.ptu_units.specs.Counts.{counted}
+use Rattle.ptu_units.specs.{declared.client.Client.{Client}, Client.{table_of}, Counts.{counted}}
 use Rattle.ptu_grandmaster.specs.Gm.{KeptGm, HasKeptPorts, StandsFor, tables, table_at}
 
 -- for how many more rows the client's table has room

@@ -3,7 +3,7 @@ use Rattle.std.specs.Prelude.{◌≡◌, ◌↔◌, ℕ, List, [], ◌∷◌, ma
 use Rattle.ptu_outside.specs.{Departure.{Departure}, declared.port.Port.{Ghosts as Ports}}
 use Rattle.ptu_outside.specs.HandsOver.{HandsOver}
 use Rattle.ptu_messages.specs.declared.header.Header.{Header}
-use Rattle.ptu_history.specs.{declared.client.Client.{Client}, Client.{table_of}}
+use Rattle.ptu_units.specs.{declared.client.Client.{Client}, Client.{table_of}}
 use Rattle.ptu_history.specs.{Core.{table_step_moment}, History.{Record}, Step.{delay_answer}}
 use Rattle.ptu_history.specs.Verdict.{Config}
 use Rattle.ptu_shard.specs.declared.answered.Answered.{Answered}

@@ -10,10 +10,9 @@ use crate::gm::Gm;
 use crate::outcome::{Outcome, Outcomes};
 use ptu_admit::{Cancelled, Verdict, cancel, decide_all, decide_one};
 use ptu_gm_messages::Item;
-use ptu_history::{Client, table_of};
 use ptu_messages::Ask;
 use ptu_outside::Port;
-use ptu_units::{Kind, Moment, OutOfMemory};
+use ptu_units::{Client, Kind, Moment, OutOfMemory, table_of};
 
 impl<P: Port> Gm<P> {
     // Makes room for so many rows more in the client's table.

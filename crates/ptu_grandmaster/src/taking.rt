@@ -2,7 +2,8 @@
 
 ghost use Rattle.std.specs.Prelude.{◌≡◌, ℕ, List, IfOk, OnErr, map};
 ghost use Rattle.ptu_messages.specs.MessageFault.{IsSignaling};
-ghost use Rattle.ptu_history.specs.{Client.{table_of}, Core.{history_after}, History.{Record}};
+ghost use Rattle.ptu_units.specs.Client.{table_of};
+ghost use Rattle.ptu_history.specs.{Core.{history_after}, History.{Record}};
 ghost use Rattle.ptu_gm_messages.specs.Deciding.{client_of, events_of_datagram, opened_with};
 ghost use Rattle.ptu_gm_messages.specs.{Items.{AreAnswerable, heard_in}, Replies.{reply_to}};
 ghost use Rattle.ptu_grandmaster.specs.Deciding.{AllCome};
@@ -14,10 +15,9 @@ use crate::gm::Gm;
 use crate::outcome::{Outcomes, Taken};
 use crate::replying::send_reply;
 use ptu_gm_messages::{Heard, Item, client_of, hear_in};
-use ptu_history::Client;
 use ptu_messages::Header;
 use ptu_outside::{Port, Reply};
-use ptu_units::{Moment, OutOfMemory};
+use ptu_units::{Client, Moment, OutOfMemory};
 use std::mem::replace;
 
 impl<P: Port> Gm<P> {

@@ -2,7 +2,7 @@
 
 ghost use Rattle.std.specs.Prelude.{◌≡◌, ◌<◌, ℕ, max, List, ◌++◌, map};
 ghost use Rattle.ptu_outside.specs.HandsOver.{HandsOver};
-ghost use Rattle.ptu_history.specs.Client.{table_of as table_of_client};
+ghost use Rattle.ptu_units.specs.Client.{table_of as table_of_client};
 ghost use Rattle.ptu_history.specs.{Core.{core_step, table_step_moment}, History.{Record}};
 ghost use Rattle.ptu_history.specs.{Step.{delay_answer}, Turns.{due_grants, message_of}};
 ghost use Rattle.ptu_history.specs.Events as events;
@@ -12,11 +12,10 @@ ghost use Rattle.ptu_gm_messages.specs.Deciding.{opened_with};
 ghost use Rattle.ptu_grandmaster.specs.{Gm.{StandsFor, table_at, with_table}, Taking.{Responds}};
 
 use crate::gm::Gm;
-use ptu_history::{Client, table_of};
 use ptu_messages::Header;
 use ptu_outside::Port;
 use ptu_shard::{Answered, Turned};
-use ptu_units::Moment;
+use ptu_units::{Client, Moment, table_of};
 
 impl<P: Port> Gm<P> {
     /// The table of this index, from 0 to 3, takes a turn at the greatest of `t`, the book's moment

@@ -5,7 +5,7 @@ use Rattle.std.specs.Option.{option_map_or}
 use Rattle.std.proofs.lemmas.Bool.{and_from, and_left, and_parts, and_right, le-leb, lt-leb, or_parts}
 use Rattle.std.proofs.lemmas.{List.{append-nil}, List.Elements.{All-cons, All-nil, filter_agree}}
 use Rattle.ptu_units.specs.declared.kind.{Kind.{Kind}, Kind.TheVariants.{Announce, Sync, DelayResp}}
-use Rattle.ptu_history.specs.{declared.client.Client.{Client}, Client.{same_lease, table_of}}
+use Rattle.ptu_units.specs.{declared.client.Client.{Client}, Client.{same_lease, table_of}}
 use Rattle.ptu_history.specs.History.{Record, Capacity, Ended, Granted, Looked, Sent, Shed, capacity_in_force, concerns, decides, is_change, is_decision, lease_records, moment_of}
 use Rattle.ptu_history.specs.Moments.{table_moment}
 use Rattle.ptu_history.specs.Live.{Grant, IsDistinctByLease, is_live, is_of, last_decision, live, standing}
@@ -18,7 +18,7 @@ use Rattle.ptu_history.specs.Step.{answer_records, delay_answer}
 use Rattle.ptu_history.proofs.Alike.{chain-alike, earliest-alike, last_decision-alike, last_period-alike, root-alike, sequence_number-alike}
 use Rattle.ptu_history.proofs.Capacities.{capacity_in_force-append, capacity_in_force-unchanged}
 use Rattle.ptu_history.proofs.Currents.{is_decided, standing-append, standing-undecided}
-use Rattle.ptu_history.proofs.Keys.{same_lease-refl, same_lease-true}
+use Rattle.ptu_units.proofs.Keys.{same_lease-refl, same_lease-true}
 use Rattle.ptu_history.proofs.LeaseRecords.{lease_records-append, lease_records-push_own}
 use Rattle.ptu_history.proofs.{Lists.{or-false}, LiveGrants.{LiveGrant, live-grant}}
 use Rattle.ptu_history.proofs.Members.{Differ, any_member, member_any, none_other, pairs_first, pairs_front, pairs_rest, same_test}

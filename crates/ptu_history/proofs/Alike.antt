@@ -1,7 +1,7 @@
 -- Where the same concerns a client and kind in two histories, all that is said of them is the same.
 use Rattle.std.proofs.Common.{◌≡◌, ℕ, List}
-use Rattle.ptu_units.specs.declared.kind.Kind.{Kind}
-use Rattle.ptu_history.specs.{declared.client.Client.{Client}, History.{Record, lease_records}}
+use Rattle.ptu_units.specs.declared.{client.Client.{Client}, kind.Kind.{Kind}}
+use Rattle.ptu_history.specs.History.{Record, lease_records}
 use Rattle.ptu_history.specs.Live.{last_decision, live}
 use Rattle.ptu_history.specs.Runs.{chain, root, sent_in_chain, sequence_number}
 use Rattle.ptu_history.specs.Lawful.{earliest, last_period, lawful}

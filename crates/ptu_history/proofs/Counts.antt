@@ -3,7 +3,7 @@ use Rattle.std.proofs.Common.{◌≡◌, ◌∙◌, ℕ, ◌+◌, ◌++◌, List
 use Rattle.std.specs.List.{count_by}
 use Rattle.std.proofs.lemmas.{List.{append-nil}, List.Sums.{sum_by-append, sum_by-cons}}
 use Rattle.ptu_units.specs.declared.kind.{Kind.{Kind}, Kind.TheVariants.{DelayResp}}
-use Rattle.ptu_history.specs.{declared.client.Client.{Client}, Client.{table_of}}
+use Rattle.ptu_units.specs.{declared.client.Client.{Client}, Client.{table_of}}
 use Rattle.ptu_history.specs.History.{Record, Granted, Short, Ended, Capacity, Looked, Sent, is_sent}
 use Rattle.ptu_history.specs.{Live.{Grant}, Lawful.{lawful}, Turns.{sent_record}}
 use Rattle.ptu_history.specs.{Shedding.{shed_record}, Step.{answer_records, delay_answer}}

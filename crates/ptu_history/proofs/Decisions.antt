@@ -2,13 +2,12 @@
 use Rattle.std.proofs.Common.{◌≡◌, ◌∙◌, ℕ, ◌++◌, List, [], ◌∷◌, true, false, cond, refl, ap, Some, None, ℤ, ltb}
 use Rattle.std.specs.{List.{list_any}, Option.{option_or}}
 use Rattle.std.proofs.lemmas.Bool.{or_parts}
-use Rattle.ptu_units.specs.declared.kind.Kind.{Kind}
-use Rattle.ptu_history.specs.declared.client.Client.{Client}
+use Rattle.ptu_units.specs.declared.{client.Client.{Client}, kind.Kind.{Kind}}
 use Rattle.ptu_history.specs.History.{Record, Granted, Ended, Shed, decides, concerns, lease_records}
 use Rattle.ptu_history.specs.Live.{is_live, last_decision, live}
 use Rattle.ptu_history.specs.Runs.{root, chain, sequence_number, sent_in_chain}
 use Rattle.ptu_history.specs.Lawful.{earliest, last_period, lawful}
-use Rattle.ptu_history.proofs.Keys.{same_lease-refl}
+use Rattle.ptu_units.proofs.Keys.{same_lease-refl}
 use Rattle.ptu_history.proofs.LeaseRecords.{last_decision-append, last_decision-one, lease_records-stranger}
 
 nothing_decided : (c : Client) (k : Kind) → last_decision [] c k ≡ None

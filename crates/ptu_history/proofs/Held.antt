@@ -5,7 +5,7 @@ use Rattle.std.proofs.lemmas.Bool.{and_left, and_right, le-leb, lt-leb, or_from,
 use Rattle.std.proofs.lemmas.{List.{append-nil}, List.Elements.{filter-append}}
 use Rattle.std.proofs.lemmas.List.{Folds.{find-append}, Sums.{sum_by-cons}}
 use Rattle.ptu_units.specs.{declared.kind.Kind.{Kind}, Log.{rate_of}}
-use Rattle.ptu_history.specs.declared.client.Client.{Client}
+use Rattle.ptu_units.specs.declared.client.Client.{Client}
 use Rattle.ptu_history.specs.History.{Record, Granted, Short, Ended, Capacity, Shed, Looked, Sent, concerns, decides, is_decision, moment_of, capacity_in_force, is_change}
 use Rattle.ptu_history.specs.Moments.{book_moment, book_part, greatest_by}
 use Rattle.ptu_history.specs.{Live.{Grant, live_grants, standing}, Verdict.{rate_sum}}

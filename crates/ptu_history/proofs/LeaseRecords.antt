@@ -3,8 +3,7 @@ use Rattle.std.proofs.Common.{◌≡◌, ◌∙◌, ◌++◌, List, [], ◌∷�
 use Rattle.std.specs.{List.{filter, find}, Option.{option_or}}
 use Rattle.std.proofs.lemmas.{List.{reverse-append, append-nil}, List.Elements.{filter-append}}
 use Rattle.std.proofs.lemmas.List.Folds.{find-append}
-use Rattle.ptu_units.specs.declared.kind.Kind.{Kind}
-use Rattle.ptu_history.specs.declared.client.Client.{Client}
+use Rattle.ptu_units.specs.declared.{client.Client.{Client}, kind.Kind.{Kind}}
 use Rattle.ptu_history.specs.History.{Record, concerns, decides, is_decision, lease_records}
 use Rattle.ptu_history.specs.Live.{last_decision}
 

@@ -1,4 +1,3 @@
-pub mod Keys
 pub mod Lists
 pub mod Members
 pub mod LeaseRecords

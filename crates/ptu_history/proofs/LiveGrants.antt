@@ -2,11 +2,11 @@
 use Rattle.std.proofs.Common.{◌≡◌, ◌∙◌, ℕ, ◌<◌, ◌++◌, List, [], ◌∷◌, Bool, true, false, cond, ltb, refl, sym, ap, Option, Some, None, ℤ}
 use Rattle.std.proofs.lemmas.{Bool.{and_parts, false≢true, ltb-true}, Bool.Decides.{Decides-int_eq}}
 use Rattle.std.specs.Ordering.{int_eq}
-use Rattle.ptu_units.specs.declared.kind.Kind.{Kind}
-use Rattle.ptu_history.specs.declared.client.Client.{Client}
+use Rattle.ptu_units.specs.declared.{client.Client.{Client}, kind.Kind.{Kind}}
 use Rattle.ptu_history.specs.History.{Record, Granted, Short, Ended, Capacity, Shed, Looked, Sent, decides, lease_records}
 use Rattle.ptu_history.specs.{Live.{is_live, last_decision, live}, Runs.{continues}}
-use Rattle.ptu_history.proofs.{Keys.{same_lease-true}, Lists.{by_push}, Standing.{last_pushed}}
+use Rattle.ptu_units.proofs.Keys.{same_lease-true}
+use Rattle.ptu_history.proofs.{Lists.{by_push}, Standing.{last_pushed}}
 
 none_last : (c : Client) (k : Kind) (r : Record) → last_decision [] c k ≡ Some r → decides c k r ≡ true
 unfolding last_decision lease_records

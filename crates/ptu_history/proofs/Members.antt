@@ -5,9 +5,9 @@ use Rattle.std.proofs.lemmas.Bool.{or_left, or_parts, or_right, or_from, false�
 use Rattle.std.proofs.lemmas.List.Elements.{All-cons, All-head, All-nil, All-tail, Contains-append_right}
 use Rattle.std.proofs.lemmas.List.Kept.{AllPairs-cons}
 use Rattle.ptu_units.specs.declared.kind.Kind.{Kind}
-use Rattle.ptu_history.specs.{declared.client.Client.{Client}, Client.{same_lease}}
+use Rattle.ptu_units.specs.{declared.client.Client.{Client}, Client.{same_lease}}
 use Rattle.ptu_history.specs.Live.{Grant, IsDistinctByLease, is_of}
-use Rattle.ptu_history.proofs.Keys.{same_lease-true}
+use Rattle.ptu_units.proofs.Keys.{same_lease-true}
 
 -- two tests that imply each other are one
 pub same_test : (a b : Bool) → (a ≡ true → b ≡ true) → (b ≡ true → a ≡ true) → a ≡ b

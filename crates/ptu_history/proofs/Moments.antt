@@ -3,7 +3,8 @@ use Rattle.std.proofs.Common.{◌≡◌, ◌∙◌, ℕ, ◌<◌, ◌≤◌, max
 use Rattle.std.specs.List.{All, Contains, list_any}
 use Rattle.std.proofs.lemmas.Bool.{false≢true, leb-false, leb-true}
 use Rattle.std.proofs.lemmas.List.Elements.{All-cons, All-head, All-nil, All-tail, All-weaker, Contains-append_right}
-use Rattle.ptu_history.specs.{Client.{table_of}, History.{Record, Capacity, Looked, moment_of}}
+use Rattle.ptu_units.specs.Client.{table_of}
+use Rattle.ptu_history.specs.History.{Record, Capacity, Looked, moment_of}
 use Rattle.ptu_history.specs.Live.{Grant}
 use Rattle.ptu_history.specs.Moments.{IsGreatest, greatest_by, book_part, table_part, is_of_table, book_moment, table_moment}
 use Rattle.ptu_history.specs.{Turns.{sent_record}, Shedding.{shed_record}}

@@ -6,8 +6,9 @@ use Rattle.std.proofs.lemmas.List.Sorted.{IsPermutation-refl, IsPermutation-cons
 use Rattle.std.proofs.lemmas.Cmp.{nat_cmp_total, on_total, then_total, back_total}
 use Rattle.std.specs.{Cmp.{IsTotalOrder}, Ordering.{is_lt, ordering_reverse}}
 use Rattle.std.specs.declared.cmp.{Ordering.{Ordering}, Ordering.TheVariants.{Less, Equal, Greater}}
-use Rattle.ptu_history.specs.declared.client.Client.{Client}
-use Rattle.ptu_history.specs.{Client.{client_cmp, kind_cmp, kind_place}, History.{Record}}
+use Rattle.ptu_units.specs.declared.client.Client.{Client}
+use Rattle.ptu_units.specs.Client.{client_cmp, kind_cmp, kind_place}
+use Rattle.ptu_history.specs.History.{Record}
 use Rattle.ptu_history.specs.{Live.{Grant}, Lawful.{earliest}, Order.{in_order, insert_in_order}}
 use Rattle.ptu_history.specs.{Verdict.{rate_sum}, Turns.{turn_cmp}}
 use Rattle.ptu_history.specs.Shedding.{shed_prefix, shed_cmp}

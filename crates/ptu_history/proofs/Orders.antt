@@ -7,14 +7,14 @@ use Rattle.std.proofs.lemmas.Bool.{and_from, and_parts, eq-eqb, eqb-true, falseâ
 use Rattle.std.proofs.lemmas.List.{Elements.{All-contains, Contains-get_or}, Kept.{AllPairs-filter}}
 use Rattle.std.proofs.lemmas.List.Sorted.{Contains-permutation, IsPermutation-sym}
 use Rattle.ptu_units.specs.declared.kind.{Kind.{Kind}, Kind.TheVariants.{Announce, Sync, DelayResp}}
-use Rattle.ptu_history.specs.declared.client.Client.{Client}
-use Rattle.ptu_history.specs.Client.{client_cmp, kind_cmp, kind_place, same_client, same_kind, same_lease, table_of}
+use Rattle.ptu_units.specs.declared.client.Client.{Client}
+use Rattle.ptu_units.specs.Client.{client_cmp, kind_cmp, kind_place, same_client, same_kind, same_lease, table_of}
 use Rattle.ptu_history.specs.{Order.{in_order}, History.{Record}}
 use Rattle.ptu_history.specs.Live.{Grant, IsDistinctByLease, IsLastDecision, is_live, live, live_grants, standing}
 use Rattle.ptu_history.specs.Lawful.{earliest, lawful}
 use Rattle.ptu_history.specs.Turns.{due_grants, is_due, is_turned, turn_cmp}
 use Rattle.ptu_history.specs.Shedding.{shed_cmp, shed_order}
-use Rattle.ptu_history.proofs.Keys.{same_lease-sym}
+use Rattle.ptu_units.proofs.Keys.{same_lease-sym}
 use Rattle.ptu_history.proofs.Order.{IsAsymmetric-total, IsPermutation-in_order, IsSorted-in_order, shed_cmp-total, turn_cmp-total}
 use Rattle.ptu_history.proofs.Standing.{Contains-filter, standing-distinct, standing-last, standing-member}
 use Rattle.ptu_history.proofs.Unique.{Apart-from_pairs, Apart-in_order, Contains-from_filter, Rises-from_sorted, Rises-unique, pairs_from_Apart}

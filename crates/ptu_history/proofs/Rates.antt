@@ -5,13 +5,14 @@ use Rattle.std.proofs.lemmas.{Bool.{lt-ltb, or_from, or_left, or_right}, Nat.{mo
 use Rattle.std.proofs.lemmas.List.Elements.{All-cons, All-head, All-nil, All-tail, All-weaker}
 use Rattle.std.proofs.lemmas.List.{Sorted.{sum_by-IsPermutation}, Sums.{sum_by-append, sum_by-cons}}
 use Rattle.ptu_units.specs.{declared.kind.Kind.{Kind}, Log.{rate_of}}
-use Rattle.ptu_history.specs.{declared.client.Client.{Client}, Client.{table_of}}
+use Rattle.ptu_units.specs.{declared.client.Client.{Client}, Client.{table_of}}
 use Rattle.ptu_history.specs.History.{Record, Capacity, Granted, Short, Ended, Shed, Looked, Sent}
 use Rattle.ptu_history.specs.Live.{Grant, is_live, is_of, last_decision, live, live_grants, standing, without}
 use Rattle.ptu_history.specs.Verdict.{live_rate, others, own_rate, rate_sum, table_rates}
 use Rattle.ptu_history.specs.Shedding.{shed_grants, shed_order, shed_record}
 use Rattle.ptu_history.proofs.{AfterSteps.{standing-resized}, Currents.{live-standing}}
-use Rattle.ptu_history.proofs.{Keys.{same_lease-refl, same_lease-sym}, Lists.{filter-comm}}
+use Rattle.ptu_units.proofs.Keys.{same_lease-refl, same_lease-sym}
+use Rattle.ptu_history.proofs.Lists.{filter-comm}
 use Rattle.ptu_history.proofs.LiveGrants.{LiveGrant, live-grant}
 use Rattle.ptu_history.proofs.Members.{Differ, all_second, any_filtered, filter_none, only_of, pairs_front, pairs_rest}
 use Rattle.ptu_history.proofs.Order.{IsPermutation-in_order, shed_prefix-rest}

@@ -4,13 +4,13 @@ use Rattle.std.specs.{List.{find}, Option.{option_map_or}, Ordering.{int_eq}}
 use Rattle.std.proofs.lemmas.Bool.{lt-ltb, and_from, and_right, and_left, false_from_ne_true}
 use Rattle.std.proofs.lemmas.Bool.Decides.{Decides-int_eq}
 use Rattle.ptu_units.specs.declared.kind.{Kind.{Kind}, Kind.TheVariants.{Announce, Sync, DelayResp}}
-use Rattle.ptu_units.specs.Log.{period_of}
-use Rattle.ptu_history.specs.declared.client.Client.{Client}
+use Rattle.ptu_units.specs.{declared.client.Client.{Client}, Log.{period_of}}
 use Rattle.ptu_history.specs.History.{Record, Granted, Short, Ended, Capacity, Shed, Looked, Sent, is_decision, moment_of, lease_records}
 use Rattle.ptu_history.specs.Live.{is_live, last_decision, live}
 use Rattle.ptu_history.specs.Runs.{follows, continues, first_of_run, sent_in_run, root, chain, sequence_number, sent_in_chain}
 use Rattle.ptu_history.specs.Lawful.{earliest, earliest_of, last_period, period_of_last}
-use Rattle.ptu_history.proofs.{Keys.{same_lease-refl}, LeaseRecords.{lease_records-push_own}}
+use Rattle.ptu_units.proofs.Keys.{same_lease-refl}
+use Rattle.ptu_history.proofs.LeaseRecords.{lease_records-push_own}
 use Rattle.ptu_history.proofs.Pacing.{earliest_credited-cons}
 
 -- the period of a grant that is the last decision

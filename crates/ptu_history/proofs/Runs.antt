@@ -4,8 +4,7 @@ use Rattle.std.specs.List.{filter, find, list_any}
 use Rattle.std.proofs.lemmas.Bool.{false≢true, true≢false}
 use Rattle.std.specs.Option.{option_map_or}
 use Rattle.std.proofs.lemmas.List.{length-map}
-use Rattle.ptu_units.specs.declared.kind.Kind.{Kind}
-use Rattle.ptu_history.specs.declared.client.Client.{Client}
+use Rattle.ptu_units.specs.declared.{client.Client.{Client}, kind.Kind.{Kind}}
 use Rattle.ptu_history.specs.History.{Record, Granted, is_decision, moment_of, lease_records}
 use Rattle.ptu_history.specs.Live.{last_decision}
 use Rattle.ptu_history.specs.Runs.{IsRun, Unbroken, chain, continues, first_of_run, follows, root, sent_in_chain, sent_in_run, sequence_number}

@@ -5,10 +5,11 @@ use Rattle.std.proofs.lemmas.Bool.{or_right, or_left, false_from_ne_true, falseâ
 use Rattle.std.proofs.lemmas.List.Elements.{All-append, All-cons, All-filter, All-nil, All-weaker, Contains-append_left, Contains-append_right, filter_passes}
 use Rattle.std.proofs.lemmas.List.Kept.{AllPairs-cons}
 use Rattle.ptu_units.specs.declared.kind.Kind.{Kind}
-use Rattle.ptu_history.specs.{declared.client.Client.{Client}, Client.{same_lease}}
+use Rattle.ptu_units.specs.{declared.client.Client.{Client}, Client.{same_lease}}
 use Rattle.ptu_history.specs.History.{Record, Granted, decides, lease_records}
 use Rattle.ptu_history.specs.Live.{Grant, IsLastDecision, last_decision, standing}
-use Rattle.ptu_history.proofs.{Keys.{same_lease-refl, same_lease-true}, Lists.{by_push, or-false}}
+use Rattle.ptu_units.proofs.Keys.{same_lease-refl, same_lease-true}
+use Rattle.ptu_history.proofs.Lists.{by_push, or-false}
 use Rattle.ptu_history.proofs.LeaseRecords.{last_decision-append, last_decision-one}
 use Rattle.ptu_history.proofs.Decisions.{last_decision-decided}
 use Rattle.ptu_history.proofs.Currents.{standing-append, standing-granted}

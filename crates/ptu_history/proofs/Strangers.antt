@@ -2,12 +2,12 @@
 use Rattle.std.proofs.Common.{◌≡◌, ◌≢◌, ◌∙◌, ◌↔◌, ℕ, ◌++◌, List, [], ◌∷◌, true, false, cond, ap, subst, Some}
 use Rattle.std.proofs.lemmas.Bool.{false_from_ne_true}
 use Rattle.ptu_units.specs.declared.kind.Kind.{Kind}
-use Rattle.ptu_history.specs.{declared.client.Client.{Client}, Client.{same_lease}}
+use Rattle.ptu_units.specs.{declared.client.Client.{Client}, Client.{same_lease}}
 use Rattle.ptu_history.specs.History.{Record, concerns, decides, lease_records}
 use Rattle.ptu_history.specs.Live.{is_live, last_decision, live}
 use Rattle.ptu_history.specs.Runs.{chain, sent_in_chain, sequence_number}
 use Rattle.ptu_history.specs.Lawful.{earliest, last_period, lawful}
-use Rattle.ptu_history.proofs.Keys.{same_lease-refl, same_lease-true}
+use Rattle.ptu_units.proofs.Keys.{same_lease-refl, same_lease-true}
 use Rattle.ptu_history.proofs.{LeaseRecords.{lease_records-push}, Standing.{last_pushed}}
 
 pub live-undecided_push : (history : List Record) (r : Record) (x : ℕ) (c : Client) (k : Kind) → decides c k r ≡ false → live (history ++ r ∷ []) x c k ≡ live history x c k

@@ -4,7 +4,7 @@ use Rattle.std.specs.Prelude.{IsOk, IsErr, int_le, T}
 use Rattle.std.proofs.lemmas.Bool.{le-leb, lt-leb, lt-ltb, le-ltb, and_from, and_parts, false_from_ne_true, false≢true}
 use Rattle.ptu_units.specs.{declared.kind.Kind.{Kind}, Kind.{kind_of}}
 use Rattle.ptu_units.specs.Log.{IsLogOf, least_log, rate_of}
-use Rattle.ptu_history.specs.{declared.client.Client.{Client}, Client.{table_of}}
+use Rattle.ptu_units.specs.{declared.client.Client.{Client}, Client.{table_of}}
 use Rattle.ptu_history.specs.History.{Record, Granted, Short, capacity_in_force}
 use Rattle.ptu_history.specs.Moments.{book_moment, table_moment}
 use Rattle.ptu_history.specs.Verdict.{Config, Ask, OutsideCause, OutsideCode, OutsideLog, OutsideDuration, Verdict, granted_seconds, is_log_of, others, profile, profile_of, verdict, verdict_of, verdict_within, GrantedFor, ShortOf, Outside}

@@ -1,7 +1,8 @@
 -- The moments at which the core takes events, and the history and outcomes of a list of events (the
 -- project's own choice).
 use Rattle.std.specs.Prelude.{ℕ, max, List, [], ◌∷◌, ◌++◌}
-use Rattle.ptu_history.specs.{Client.{table_of}, History.{Record}}
+use Rattle.ptu_units.specs.Client.{table_of}
+use Rattle.ptu_history.specs.History.{Record}
 use Rattle.ptu_history.specs.{Moments.{book_moment, table_moment}, Verdict.{Config}}
 use Rattle.ptu_history.specs.Events.{Event, Request, Cancel, Turn, DelayReq, Resize, Outcome, Taken}
 use Rattle.ptu_history.specs.Step.{step}

@@ -1,8 +1,8 @@
 -- What may happen to a grandmaster, and what it answers (IEEE 1588-2019 clause 16.1; turns and
 -- changes of capacity are the project's own choice).
 use Rattle.std.specs.Prelude.{ℕ, Bool, List}
-use Rattle.ptu_units.specs.declared.kind.Kind.{Kind}
-use Rattle.ptu_history.specs.{declared.client.Client.{Client}, History.{Record}, Live.{Grant}}
+use Rattle.ptu_units.specs.declared.{client.Client.{Client}, kind.Kind.{Kind}}
+use Rattle.ptu_history.specs.{History.{Record}, Live.{Grant}}
 use Rattle.ptu_history.specs.Verdict.{Ask, Verdict}
 
 -- what may happen to a grandmaster

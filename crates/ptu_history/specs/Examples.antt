@@ -1,8 +1,7 @@
 -- Two clients, some asks, and short lists of events, on which the definitions compute.
 use Rattle.std.specs.Prelude.{ℕ, ◌*◌, List, [], ◌∷◌, ◌++◌, ℤ, pos, negsuc}
 use Rattle.ptu_units.specs.declared.kind.{Kind.{Kind}, Kind.TheVariants.{Announce, Sync, DelayResp}}
-use Rattle.ptu_units.specs.Kind.{code_of}
-use Rattle.ptu_history.specs.declared.client.Client.{Client}
+use Rattle.ptu_units.specs.{declared.client.Client.{Client}, Kind.{code_of}}
 use Rattle.ptu_history.specs.{Verdict.{Config, Ask, GrantedFor, ShortOf}, Held.{Payment}}
 use Rattle.ptu_history.specs.Events.{Event, Request, Cancel, Turn, DelayReq, Resize, Outcome, Decided, Turned}
 

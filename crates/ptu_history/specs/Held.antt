@@ -3,7 +3,7 @@
 use Rattle.std.specs.Prelude.{ℕ, zero, suc, ◌+◌, ◌-◌, min, Bool, ◌&&◌, List, [], ◌∷◌, ◌++◌, Option, Some, None, ℤ, nat_lt, nat_le}
 use Rattle.std.specs.List.{filter, find, sum_by, count_by}
 use Rattle.ptu_units.specs.{declared.kind.Kind.{Kind}, Log.{rate_of}}
-use Rattle.ptu_history.specs.declared.client.Client.{Client}
+use Rattle.ptu_units.specs.declared.client.Client.{Client}
 use Rattle.ptu_history.specs.History.{Record, Granted, Sent, moment_of, decides, capacity_in_force, is_sent}
 use Rattle.ptu_history.specs.Lawful.{last_period, earliest}
 

@@ -3,7 +3,7 @@
 use Rattle.std.specs.Prelude.{ℕ, Bool, true, false, List, [], ◌∷◌, reverse, ℤ, cond}
 use Rattle.std.specs.List.{filter}
 use Rattle.ptu_units.specs.declared.kind.Kind.{Kind}
-use Rattle.ptu_history.specs.{declared.client.Client.{Client}, Client.{same_lease}}
+use Rattle.ptu_units.specs.{declared.client.Client.{Client}, Client.{same_lease}}
 
 -- one thing that a grandmaster decided or did
 pub data Record : Type 0 where

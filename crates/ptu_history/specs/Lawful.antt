@@ -2,8 +2,7 @@
 -- choice).
 use Rattle.std.specs.Prelude.{ℕ, ◌+◌, ◌*◌, max, Bool, ◌&&◌, List, [], ◌∷◌, length, nat_le}
 use Rattle.ptu_units.specs.declared.kind.{Kind.{Kind}, Kind.TheVariants.{Announce, Sync, DelayResp}}
-use Rattle.ptu_units.specs.Log.{period_of}
-use Rattle.ptu_history.specs.declared.client.Client.{Client}
+use Rattle.ptu_units.specs.{declared.client.Client.{Client}, Log.{period_of}}
 use Rattle.ptu_history.specs.{History.{Record, Granted, lease_records}, Moments.{greatest_by}}
 use Rattle.ptu_history.specs.{Live.{live}, Runs.{chain, sent_in_chain}}
 

@@ -1,4 +1,3 @@
-pub mod Client
 pub mod Order
 pub mod History
 pub mod Moments

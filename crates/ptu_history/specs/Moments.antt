@@ -1,7 +1,7 @@
 -- The moments below which no step is taken (the project's own choice).
 use Rattle.std.specs.Prelude.{ℕ, ◌≤◌, max, Bool, false, List, [], ◌∷◌, ◌==◌, if◌then◌else◌}
 use Rattle.std.specs.List.{All, Contains}
-use Rattle.ptu_history.specs.Client.{table_of}
+use Rattle.ptu_units.specs.Client.{table_of}
 use Rattle.ptu_history.specs.History.{Record, Granted, Short, Ended, Capacity, Shed, Looked, Sent, moment_of}
 
 -- the greatest of these values, or 0

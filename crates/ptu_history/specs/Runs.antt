@@ -2,8 +2,7 @@
 -- project's own choice).
 use Rattle.std.specs.Prelude.{◌≡◌, ℕ, ◌%◌, Bool, true, false, not, ◌&&◌, List, [], ◌∷◌, ◌++◌, Option, Some, None, length, nat_lt, if◌then◌else◌}
 use Rattle.std.specs.{List.{filter, find}, Option.{option_map_or}, Ordering.{int_eq}}
-use Rattle.ptu_units.specs.declared.kind.Kind.{Kind}
-use Rattle.ptu_history.specs.declared.client.Client.{Client}
+use Rattle.ptu_units.specs.declared.{client.Client.{Client}, kind.Kind.{Kind}}
 use Rattle.ptu_history.specs.History.{Record, Granted, moment_of, is_decision, lease_records}
 use Rattle.ptu_history.specs.Live.{is_live}
 

@@ -1,7 +1,8 @@
 -- What a change of capacity sheds (the project's own choice).
 use Rattle.std.specs.Prelude.{ℕ, List, [], ◌∷◌, nat_le, if◌then◌else◌}
 use Rattle.std.specs.{Ordering.{nat_cmp, ordering_then}, declared.cmp.Ordering.{Ordering}}
-use Rattle.ptu_history.specs.{Client.{client_cmp, kind_cmp}, Order.{in_order}}
+use Rattle.ptu_units.specs.Client.{client_cmp, kind_cmp}
+use Rattle.ptu_history.specs.Order.{in_order}
 use Rattle.ptu_history.specs.{History.{Record, Shed}, Live.{Grant, live_grants}, Verdict.{rate_sum}}
 
 -- the record of the grant's shedding

@@ -2,7 +2,7 @@
 -- changes of capacity are the project's own choice).
 use Rattle.std.specs.Prelude.{ℕ, List, [], ◌∷◌, map, if◌then◌else◌}
 use Rattle.ptu_units.specs.declared.kind.Kind.TheVariants.{DelayResp}
-use Rattle.ptu_history.specs.{declared.client.Client.{Client}, Client.{table_of}}
+use Rattle.ptu_units.specs.{declared.client.Client.{Client}, Client.{table_of}}
 use Rattle.ptu_history.specs.History.{Record, Granted, Short, Ended, Capacity, Looked, Sent}
 use Rattle.ptu_history.specs.{Live.{live}, Lawful.{earliest, lawful}}
 use Rattle.ptu_history.specs.Verdict.{Config, Verdict, GrantedFor, ShortOf, Outside, verdict}

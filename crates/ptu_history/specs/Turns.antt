@@ -2,8 +2,9 @@
 use Rattle.std.specs.{Prelude.{ℕ, Bool, true, false, ◌&&◌, List, ◌==◌}, List.{filter}}
 use Rattle.std.specs.{Ordering.{nat_cmp, ordering_then}, declared.cmp.Ordering.{Ordering}}
 use Rattle.ptu_units.specs.declared.kind.{Kind.{Kind}, Kind.TheVariants.{Announce, Sync, DelayResp}}
-use Rattle.ptu_history.specs.declared.client.Client.{Client}
-use Rattle.ptu_history.specs.{Client.{client_cmp, kind_cmp, table_of}, Order.{in_order}}
+use Rattle.ptu_units.specs.declared.client.Client.{Client}
+use Rattle.ptu_units.specs.Client.{client_cmp, kind_cmp, table_of}
+use Rattle.ptu_history.specs.Order.{in_order}
 use Rattle.ptu_history.specs.{History.{Record, Sent}, Live.{Grant, live_grants}}
 use Rattle.ptu_history.specs.{Runs.{sequence_number}, Lawful.{earliest, lawful}, Events.{Message}}
 

@@ -5,11 +5,10 @@ ghost use Rattle.std.specs.Prelude.{◌≡◌, ◌≢◌, ℕ, ◌+◌, ◌*◌,
 ghost use Rattle.std.specs.List.{All, AllPairs, Contains, filter, list_any};
 ghost use Rattle.std.specs.declared.cmp.Ordering.TheVariants.{Less};
 ghost use Rattle.std.specs.List.Sorted.{IsPermutation, IsSorted};
-ghost use Rattle.ptu_units.specs.declared.kind.Kind.{Kind};
+ghost use Rattle.ptu_units.specs.declared.{client.Client.{Client}, kind.Kind.{Kind}};
 ghost use Rattle.ptu_units.specs.declared.kind.Kind.TheVariants.{Announce, Sync, DelayResp};
 ghost use Rattle.ptu_units.specs.{Kind.{kind_of}, Log.{IsLogOf, period_of, rate_of}};
-ghost use Rattle.ptu_history.specs.declared.client.Client.{Client};
-ghost use Rattle.ptu_history.specs.Client.{same_lease, table_of, client_cmp, kind_cmp};
+ghost use Rattle.ptu_units.specs.Client.{same_lease, table_of, client_cmp, kind_cmp};
 ghost use Rattle.ptu_history.specs.Order.{in_order};
 ghost use Rattle.ptu_history.specs.History.{Record, Granted, Short, Ended, Capacity, Shed, Looked, Sent, concerns, decides, is_decision, is_change, moment_of, capacity_in_force, lease_records, is_sent};
 ghost use Rattle.ptu_history.specs.Moments.{book_moment, book_part, table_moment, table_part, IsGreatest};

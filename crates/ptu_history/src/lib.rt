@@ -2,8 +2,5 @@
 //! every contract of a grandmaster cites, with the laws that show that they mean what they should.
 #![tactic(auto)]
 
-mod client;
 pub mod examples;
 pub mod laws;
-
-pub use client::{Client, table_of};

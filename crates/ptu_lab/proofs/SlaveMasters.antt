@@ -4,7 +4,7 @@ use Rattle.std.proofs.lemmas.{Bool.{false≢true}, Bool.Decides.{nat_tests}, Lis
 use Rattle.std.proofs.lemmas.List.{Quantifiers.{all_pairs_push}, Sums.{fails_before_first}}
 use Rattle.std.specs.List.{AllByRecursion, position_or_len, slice_get, slice_index_or}
 use Rattle.std.specs.Prelude.{IsSome, nat_lt, ◌==◌}
-use Rattle.ptu_history.proofs.Keys.{eq-eqb-self}
+use Rattle.ptu_units.proofs.Keys.{eq-eqb-self}
 use Rattle.ptu_outside.specs.MemoryPort.{IsSure, MemoryPort}
 use Rattle.ptu_record.specs.declared.rule.Rule.{Rule}
 use Rattle.ptu_judges.specs.Held.{Held, IsFresh, fresh}

@@ -12,6 +12,7 @@ use crate::lab::{Lab, Node};
 use crate::stock::Reserve;
 use ptu_lines::LentOctets;
 use ptu_nodes::Journal;
+use ptu_report::Stepped;
 use ptu_report_lines::Statement;
 use ptu_script::{Act, Cause};
 use ptu_units::{Moment, OutOfMemory};
@@ -29,7 +30,7 @@ impl Node {
         act: Act<'_>,
         stock: &mut Reserve,
         journal: &mut Journal,
-    ) -> Result<Option<Cause>, OutOfMemory>
+    ) -> Stepped<Cause>
         requires means { (ip : ℕ) × (begun : Bool) × (w : world.Node)
             × NodeStandsAs held ip begun self.old w }
         requires stock { IsStock (map held stock.old.flags.items)
@@ -66,7 +67,7 @@ impl Lab {
     /// # Errors
     /// `OutOfMemory`. Nothing is said of the lab then: the run ends.
     #[inline(always)]
-    pub fn act(&mut self, at: Moment, ip: u32, act: Act<'_>) -> Result<Option<Cause>, OutOfMemory>
+    pub fn act(&mut self, at: Moment, ip: u32, act: Act<'_>) -> Stepped<Cause>
         requires means { (c : Course) × LabStandsFor held self.old c }
         requires within { IsActWithin act }
         requires empty { self.old.journal.texts ≡ [] }
@@ -88,12 +89,7 @@ impl Lab {
     ///
     /// # Errors
     /// `OutOfMemory`. Nothing is said of the lab then: the run ends.
-    pub fn deliver(
-        &mut self,
-        at: Moment,
-        number: u64,
-        room: &mut Vec<u8>,
-    ) -> Result<Option<Cause>, OutOfMemory>
+    pub fn deliver(&mut self, at: Moment, number: u64, room: &mut Vec<u8>) -> Stepped<Cause>
         requires means { (c : Course) × LabStandsFor held self.old c }
         requires empty { self.old.journal.texts ≡ [] }
         ensures { IfOk result (HasObeyed held self.old self.new

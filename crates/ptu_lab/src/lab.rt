@@ -11,9 +11,8 @@ use crate::slave_node::SlaveNode;
 use crate::stock::Reserve;
 use ptu_judges::Stock;
 use ptu_nodes::{GrandmasterNode, Journal};
-use ptu_report::Texts;
+use ptu_report::{Stepped, Texts};
 use ptu_script::{Cause, Command};
-use ptu_units::OutOfMemory;
 use std::alloc::Global;
 use std::collections::HashMap;
 
@@ -68,7 +67,7 @@ impl Lab {
         line: u64,
         room: &mut Vec<u8>,
         texts: &mut Texts,
-    ) -> Result<Option<Cause>, OutOfMemory>
+    ) -> Stepped<Cause>
         requires means { (c : Course) × LabStandsFor held self.old c }
         requires limits { IsCommandInRange command }
         ensures { IfOk result (λ refused. (c : Course) →
@@ -84,11 +83,7 @@ impl Lab {
 
     // Does what is commanded at the line that the journal has begun.
     #[inline(always)]
-    fn obey(
-        &mut self,
-        command: Command<'_>,
-        room: &mut Vec<u8>,
-    ) -> Result<Option<Cause>, OutOfMemory>
+    fn obey(&mut self, command: Command<'_>, room: &mut Vec<u8>) -> Stepped<Cause>
         requires means { (c : Course) × LabStandsFor held self.old c }
         requires limits { IsCommandInRange command }
         requires empty { self.old.journal.texts ≡ [] }

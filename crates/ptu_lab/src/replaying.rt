@@ -13,7 +13,7 @@ use crate::lab::Lab;
 use ptu_judges::{Judge, Stock};
 use ptu_lines::LineCause;
 use ptu_outside::{Sink, Source};
-use ptu_report::{Reporter, Texts, run};
+use ptu_report::{Reporter, Stepped, Texts, run};
 use ptu_report_lines::{ReportLine, Statement};
 use ptu_script::{Cause, read_command};
 use ptu_show::LabFault;
@@ -53,13 +53,7 @@ impl Reporter for Replayer {
 
     #[inline(never)]
     #[tactic(auto, unfolding(ptu_world::specs::Report::rules))]
-    fn take(
-        &mut self,
-        _: Global,
-        number: u64,
-        line: &[u8],
-        texts: &mut Texts,
-    ) -> Result<Option<Cause>, OutOfMemory> {
+    fn take(&mut self, _: Global, number: u64, line: &[u8], texts: &mut Texts) -> Stepped<Cause> {
         match read_command(line, &mut self.line_room) {
             Ok(None) => Ok(None),
             Ok(Some(command)) => self.lab.step(command, number, &mut self.sent_room, texts),
@@ -68,12 +62,7 @@ impl Reporter for Replayer {
     }
 
     #[tactic(auto, unfolding(ptu_world::specs::Report::rules))]
-    fn close(
-        &mut self,
-        _: Global,
-        lines: u64,
-        texts: &mut Texts,
-    ) -> Result<Option<Cause>, OutOfMemory> {
+    fn close(&mut self, _: Global, lines: u64, texts: &mut Texts) -> Stepped<Cause> {
         let datagrams = self.lab.journal.sent().count() as u64;
         texts.add_text(&ReportLine::End { lines, datagrams })?;
         Ok(None)

@@ -13,8 +13,8 @@ use crate::slave_node::{MASTERS, SlaveNode};
 use crate::stock::take_judge;
 use ptu_judges::Rule;
 use ptu_nodes::GrandmasterNode;
+use ptu_report::Stepped;
 use ptu_script::{Cause, GrandmasterSetup, SlaveSetup};
-use ptu_units::OutOfMemory;
 use std::collections::HashMap;
 
 // Takes the slave at an address out, if one is there; what else is there is lost.
@@ -53,10 +53,7 @@ impl Lab {
     /// # Errors
     /// `OutOfMemory`. The journal is as before, and nothing is said of the nodes: the run ends.
     #[inline(never)]
-    pub fn set_up_grandmaster(
-        &mut self,
-        setup: &GrandmasterSetup,
-    ) -> Result<Option<Cause>, OutOfMemory>
+    pub fn set_up_grandmaster(&mut self, setup: &GrandmasterSetup) -> Stepped<Cause>
         ensures made { IfOk result (λ refused. (line : ℕ) → HasObeyed held
             self.old self.new line [] (commands.Grandmaster setup.now) refused) }
         ensures journal { self.new.journal ≡ self.old.journal }
@@ -74,7 +71,7 @@ impl Lab {
     /// # Errors
     /// `OutOfMemory`. The journal is as before, and nothing is said of the nodes: the run ends.
     #[inline(never)]
-    pub fn set_up_slave(&mut self, setup: &SlaveSetup) -> Result<Option<Cause>, OutOfMemory>
+    pub fn set_up_slave(&mut self, setup: &SlaveSetup) -> Stepped<Cause>
         ensures made { IfOk result (λ refused. (line : ℕ) → HasObeyed held
             self.old self.new line [] (commands.Slave setup.now) refused) }
         ensures journal { self.new.journal ≡ self.old.journal }
@@ -92,13 +89,7 @@ impl Lab {
     /// # Errors
     /// `OutOfMemory`. The journal is as before, and nothing is said of the nodes: the run ends.
     #[inline(never)]
-    pub fn add_master(
-        &mut self,
-        slave: u32,
-        ip: u32,
-        priority: u8,
-        rule: Rule,
-    ) -> Result<Option<Cause>, OutOfMemory>
+    pub fn add_master(&mut self, slave: u32, ip: u32, priority: u8, rule: Rule) -> Stepped<Cause>
         requires means { (c : Course) × LabStandsFor held self.old c }
         requires named { IsNamed rule }
         ensures made { IfOk result (λ refused. (line : ℕ) → HasObeyed held

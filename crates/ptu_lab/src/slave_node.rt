@@ -29,6 +29,7 @@ use ptu_judges::{Judge, Rule};
 use ptu_messages::PortIdentity;
 use ptu_nodes::Journal;
 use ptu_outside::MemPort;
+use ptu_report::Stepped;
 use ptu_report_lines::Statement;
 use ptu_script::{Act, Cause, SlaveSetup};
 use ptu_slave::{HasPort, Heard, Master, Slave, SlaveConfig};
@@ -125,7 +126,7 @@ impl SlaveNode {
         act: Act<'_>,
         stock: &mut Reserve,
         journal: &mut Journal,
-    ) -> Result<Option<Cause>, OutOfMemory>
+    ) -> Stepped<Cause>
         requires stock { IsStock (map held stock.old.flags.items)
             (map held stock.old.gaps.items) }
         requires within { IsActWithin act }
@@ -205,7 +206,7 @@ impl SlaveNode {
         master: u32,
         unusable: bool,
         journal: &mut Journal,
-    ) -> Result<Option<Cause>, OutOfMemory>
+    ) -> Stepped<Cause>
         ensures ip { self.new.ip ≡ self.old.ip }
         ensures acted { IfOk result (λ refused. (begun : Bool) (s : Described) →
             IsNode self.old.ip (seen_by held self.old.slave) begun s →
@@ -247,7 +248,7 @@ impl SlaveNode {
         rule: Rule,
         stock: &mut Reserve,
         journal: &mut Journal,
-    ) -> Result<Option<Cause>, OutOfMemory>
+    ) -> Stepped<Cause>
         requires stock { IsStock (map held stock.old.flags.items)
             (map held stock.old.gaps.items) }
         requires named { IsNamed rule }

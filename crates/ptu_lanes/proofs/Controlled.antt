@@ -3,18 +3,18 @@ use Rattle.std.proofs.Common.{◌≡◌, ◌∙◌, ℕ, suc, zero, ◌+◌, ◌
 use Rattle.std.specs.{Prelude.{IfNone, IfOk, IfSome, option_map}, List.{All, AllByRecursion, items_where_true}}
 use Rattle.std.proofs.lemmas.{List.{append-nil, drop-drop, map-append}, List.Elements.{All-append}}
 use Rattle.std.proofs.{lemmas.List.Sums.{sum_by-append}, Math.Seq.{take-add}}
-use Rattle.ptu_units.specs.declared.kind.Kind.{Kind}
+use Rattle.ptu_units.specs.declared.{client.Client.{Client}, kind.Kind.{Kind}}
 use Rattle.ptu_outside.specs.declared.{arrival.Arrival.{Arrival}, opened.Opened.{Opened}}
 use Rattle.ptu_outside.specs.declared.{clock.Clock.{Ghosts as Clocks}, port.Port.{Ghosts as Ports}}
 use Rattle.ptu_outside.specs.{Departure.{Departure}, Telling.{IfTold, TellsOn}}
 use Rattle.ptu_outside.specs.{Faults.{HasRisen, HasNotFallen}, HandsOver.{HandsOver, SentOf}}
 use Rattle.ptu_outside.proofs.HandsOver.{goes_on_both, none_failed, not_fallen_both, rises_first, rises_second, told_both}
-use Rattle.ptu_history.specs.declared.client.Client.{Client}
 use Rattle.ptu_profile.specs.declared.grandmaster.GmConfig.{GmConfig}
 use Rattle.ptu_shared.specs.{Histories.{SendsLawfully}, Opening.{HaveFailed, Seen, seen_of}, Seats.{SeatCounts, no_verdicts}, Turning.{Turns}}
 use Rattle.ptu_shared.proofs.Failing.{failed-append, failed_hands, failed_none}
 use Rattle.ptu_gm_messages.specs.Replies.{cancels_to}
 use Rattle.ptu_config.specs.{declared.settings.GmSettings.{GmSettings}, Rounds.{all_rounds}}
+use Rattle.ptu_outside.specs.Rounds.{most}
 use Rattle.ptu_lanes.specs.Answers.{asks_among, grants_among}
 use Rattle.ptu_outside.specs.{Handed.{SentPart, WasHanded}, Ports.{HaveRisenBy, HaveRisenJust}}
 use Rattle.ptu_lanes.specs.declared.{lanes.Lanes.{Lanes}, serving.Totals.{Totals}}
@@ -40,14 +40,14 @@ asks_in-append config xs ys =
     ap (asks_in config) (datagrams-append xs ys) ∙ sum_by-append (λ d. asks_among (items_of config d)) (datagrams xs) (datagrams ys)
 
 -- 64 for each of e rounds, and then for each of the others
-pub take_rounds : (all e l : ℕ) (waited : List Arrival) → e + l ≡ all → take (64 * e) waited ++ take (64 * l) (drop (64 * e) waited) ≡ take (64 * all) waited
+pub take_rounds : (all e l : ℕ) (waited : List Arrival) → e + l ≡ all → take (most * e) waited ++ take (most * l) (drop (most * e) waited) ≡ take (most * all) waited
 take_rounds all e l waited is =
-    sym (take-add (64 * e) (64 * l) waited) ∙ ap (λ n. take n waited) (omega (arith, is))
+    sym (take-add (most * e) (most * l) waited) ∙ ap (λ n. take n waited) (omega (arith, is))
 
-pub drop_rounds : (all e l : ℕ) (waited : List Arrival) → e + l ≡ all → drop (64 * l) (drop (64 * e) waited) ≡ drop (64 * all) waited
-drop_rounds all e l waited is = drop-drop (64 * l) (64 * e) waited ∙ ap (λ n. drop n waited) (omega (arith, is))
+pub drop_rounds : (all e l : ℕ) (waited : List Arrival) → e + l ≡ all → drop (most * l) (drop (most * e) waited) ≡ drop (most * all) waited
+drop_rounds all e l waited is = drop-drop (most * l) (most * e) waited ∙ ap (λ n. drop n waited) (omega (arith, is))
 
-all_in_both : (all e l : ℕ) → e + l ≡ all → 64 * e + (0 + 64 * l) ≡ 64 * all
+all_in_both : (all e l : ℕ) → e + l ≡ all → most * e + (0 + most * l) ≡ most * all
 all_in_both all e l is = omega (arith, is)
 
 -- ---- no change
@@ -74,7 +74,7 @@ controlled_unchanged ports settings config port port' left old new none fresh r 
       early = r.exchanges;
       shed = [];
       late = [];
-      early_are = r.first ∙ sym (ap (λ n. take (64 * n) r.waited) (unchanged_rounds settings none));
+      early_are = r.first ∙ sym (ap (λ n. take (most * n) r.waited) (unchanged_rounds settings none));
       all_are = ap datagrams all ∙ r.first;
       rest = r.rest;
       unchanged = no_change (change_of settings);
@@ -113,18 +113,18 @@ controlled_some ports settings config capacity e l shed p0 p1 p2 p3 left old sea
     let none : failed ≡ 0 = none_failed failed (ports.faults p1) (ports.faults p2) hands.risen still in
     let granted : old.granted ≡ 0 = ap (λ (c : SeatCounts). c.granted) fresh in
     let refused : old.refused ≡ 0 = ap (λ (c : SeatCounts). c.refused) fresh in
-    let same : q.waited ≡ drop (64 * e) p.waited = p.rest in
-    let later : datagrams q.exchanges ≡ take (64 * l) (drop (64 * e) p.waited) = q.first ∙ ap (take (64 * l)) same in
+    let same : q.waited ≡ drop (most * e) p.waited = p.rest in
+    let later : datagrams q.exchanges ≡ take (most * l) (drop (most * e) p.waited) = q.first ∙ ap (take (most * l)) same in
     record {
       waited = p.waited;
       all = p.all;
       early = p.exchanges;
       shed = shed;
       late = q.exchanges;
-      early_are = p.first ∙ ap (λ n. take (64 * n) p.waited) (early_is ∙ sym (changed_rounds settings capacity some));
+      early_are = p.first ∙ ap (λ n. take (most * n) p.waited) (early_is ∙ sym (changed_rounds settings capacity some));
       all_are = datagrams-append p.exchanges q.exchanges ∙ ap (λ xs. xs ++ datagrams q.exchanges) p.first
-          ∙ ap (λ ys. take (64 * e) p.waited ++ ys) later ∙ take_rounds (all_rounds settings) e l p.waited all_is;
-      rest = q.rest ∙ ap (drop (64 * l)) same ∙ drop_rounds (all_rounds settings) e l p.waited all_is;
+          ∙ ap (λ ys. take (most * e) p.waited ++ ys) later ∙ take_rounds (all_rounds settings) e l p.waited all_is;
+      rest = q.rest ∙ ap (drop (most * l)) same ∙ drop_rounds (all_rounds settings) e l p.waited all_is;
       unchanged = some_change (change_of settings) capacity shed some;
       answered = All-append (IsAnswered (peak_capacity settings) config) p.exchanges q.exchanges p.answered q.answered;
       told = told_both (ports.sent p0) (ports.sent p2) (ports.sent p3) (replies config p.exchanges ++ cancels_to config 0 shed) (replies config q.exchanges)

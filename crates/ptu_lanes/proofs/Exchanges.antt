@@ -23,6 +23,7 @@ use Rattle.ptu_gm_messages.specs.declared.{reason.GmReason.{GmReason}, item.Item
 use Rattle.ptu_gm_messages.specs.{Deciding.{client_of}, Items.{heard_in, items_in}}
 use Rattle.ptu_grandmaster.specs.{declared.outcome.Outcome.{Outcome}, Outcomes.{answers_seen, item_seen}}
 use Rattle.ptu_outside.specs.Handed.{WasHanded}
+use Rattle.ptu_outside.specs.Rounds.{most}
 use Rattle.ptu_lanes.specs.Answers.{FitEach, HasAnswered, WasDecided, asks_among, grants_among}
 use Rattle.ptu_lanes.specs.Rounds.{AreDecided, BrokeOff, Exchange, Exchanged, HasReplied, HasServed, IsAnswered, IsRound, IsUnanswered, answers_of, asks_in, datagrams, found_items, items_of, replies, reply_if_any, reply_in, reply_with}
 use Rattle.ptu_lanes.proofs.{Handing.{handed-append, handed_none}, Items.{answered_none, asks-le, heard_items, items_heard}}
@@ -167,10 +168,10 @@ served_received ports greatest config e port now port' old new asks sent failed 
 -- the lane took 64 datagrams, or nothing waits any more
 abbrev pub IsOver : {P : Type 0} → Ports P → List Exchange → P → P → Type 0
 IsOver ports exchanges port port' =
-    (length exchanges ≡ 64) ⊎ (¬ HasRisen (ports.faults port) (ports.faults port') → IfSome (ports.waiting port') (λ later. later ≡ []))
+    (length exchanges ≡ most) ⊎ (¬ HasRisen (ports.faults port) (ports.faults port') → IfSome (ports.waiting port') (λ later. later ≡ []))
 
 pub round_is : {P : Type 0} (ports : Ports P) (greatest : ℕ) (config : GmConfig) (exchanges : List Exchange) (port port' : P) (old new : SeatCounts) (asks sent failed missed : ℕ) →
-    HasServed ports greatest config exchanges port port' old new asks sent failed missed → length exchanges ≤ 64 → IsOver ports exchanges port port' →
+    HasServed ports greatest config exchanges port port' old new asks sent failed missed → length exchanges ≤ most → IsOver ports exchanges port port' →
     ¬ HasRisen (ports.faults port) (ports.faults port') →
     IfSome (ports.waiting port') (λ later. IsRound ports greatest config port port' later old.granted new.granted asks sent)
 round_is ports greatest config exchanges port port' old new asks sent failed missed p few over same = of (ports.waiting port') p.given (either over)
@@ -178,12 +179,12 @@ round_is ports greatest config exchanges port port' old new asks sent failed mis
     size : length (datagrams exchanges) ≡ length exchanges
     size = length-map exchanges (λ (e : Exchange). e.datagram)
 
-    either : IsOver ports exchanges port port' → (length (datagrams exchanges) ≡ 64) ⊎ IfSome (ports.waiting port') (λ later. later ≡ [])
+    either : IsOver ports exchanges port port' → (length (datagrams exchanges) ≡ most) ⊎ IfSome (ports.waiting port') (λ later. later ≡ [])
     either (inl many) = inl (size ∙ many)
     either (inr none) = inr (none same)
 
     of : (told : Option (List Arrival)) → IfSome told (λ later. ports.waiting port ≡ Some (datagrams exchanges ++ later)) →
-        (length (datagrams exchanges) ≡ 64) ⊎ IfSome told (λ later. later ≡ []) →
+        (length (datagrams exchanges) ≡ most) ⊎ IfSome told (λ later. later ≡ []) →
         IfSome told (λ later. IsRound ports greatest config port port' later old.granted new.granted asks sent)
     of None given ends = tt
     of (Some later) given ends =
@@ -249,7 +250,7 @@ ignored_is ports greatest config from octets found port counts is none quiet dec
 -- a round that ends before it took 64 datagrams, since nothing waits after the last ones that it took, or a fault came
 pub round_over : {P : Type 0} (ports : Ports P) (greatest : ℕ) (config : GmConfig) (xs ys : List Exchange) (p0 p1 p2 : P) (old seat new : SeatCounts) (asks sent failed missed asks2 sent2 failed2 missed2 : ℕ) →
     HasServed ports greatest config xs p0 p1 old seat asks sent failed missed → HasServed ports greatest config ys p1 p2 seat new asks2 sent2 failed2 missed2 →
-    length xs + length ys ≤ 64 → (¬ HasRisen (ports.faults p1) (ports.faults p2) → IfSome (ports.waiting p2) (λ later. later ≡ [])) →
+    length xs + length ys ≤ most → (¬ HasRisen (ports.faults p1) (ports.faults p2) → IfSome (ports.waiting p2) (λ later. later ≡ [])) →
     ¬ HasRisen (ports.faults p0) (ports.faults p2) →
     IfSome (ports.waiting p2) (λ later. IsRound ports greatest config p0 p2 later old.granted new.granted (asks + asks2) (sent + sent2))
 round_over ports greatest config xs ys p0 p1 p2 old seat new asks sent failed missed asks2 sent2 failed2 missed2 p q few over =
@@ -261,7 +262,7 @@ round_over ports greatest config xs ys p0 p1 p2 old seat new asks sent failed mi
 -- ---- what was taken, answered and counted, whatever the port's count did
 
 pub exchanged_is : {P C : Type 0} (ports : Ports P) (clocks : Clocks C) (greatest : ℕ) (config : GmConfig) (exchanges : List Exchange) (n : ℕ) (port port' : P) (clock clock' : C) (old new : SeatCounts) (asks sent failed missed : ℕ) →
-    HasServed ports greatest config exchanges port port' old new asks sent failed missed → n ≡ length exchanges → length exchanges ≤ 64 → missed ≤ 1 →
+    HasServed ports greatest config exchanges port port' old new asks sent failed missed → n ≡ length exchanges → length exchanges ≤ most → missed ≤ 1 →
     PassedBy n (clocks.moments clock) (clocks.moments clock') → Exchanged ports clocks greatest config 1 sent failed port port' clock clock' old new
 exchanged_is ports clocks greatest config exchanges n port port' clock clock' old new asks sent failed missed p many few once moved = record {
   exchanges = exchanges;
@@ -283,7 +284,7 @@ exchanged_is ports clocks greatest config exchanges n port port' clock clock' ol
 
 -- want of memory after these exchanges
 pub broke_off : {P C : Type 0} (ports : Ports P) (clocks : Clocks C) (greatest : ℕ) (config : GmConfig) (exchanges : List Exchange) (n : ℕ) (p0 p1 p2 : P) (c0 c1 c2 : C) (old seat new : SeatCounts) (asks sent failed missed : ℕ) →
-    HasServed ports greatest config exchanges p0 p1 old seat asks sent failed missed → n ≡ length exchanges → n < 64 →
+    HasServed ports greatest config exchanges p0 p1 old seat asks sent failed missed → n ≡ length exchanges → n < most →
     PassedBy n (clocks.moments c0) (clocks.moments c1) → IsUnanswered ports clocks p1 p2 c1 c2 seat new →
     BrokeOff ports clocks greatest config p0 p2 c0 c2 old new
 broke_off ports clocks greatest config exchanges n p0 p1 p2 c0 c1 c2 old seat new asks sent failed missed p many few moved u = record {

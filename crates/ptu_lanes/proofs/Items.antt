@@ -3,7 +3,8 @@ use Rattle.std.proofs.Common.{◌≡◌, ◌∙◌, ℕ, ◌+◌, ◌^◌, ◌�
 use Rattle.std.specs.{Prelude.{◌==◌, if◌then◌else◌, Bool}, List.{All}}
 use Rattle.std.proofs.lemmas.{List.{map-append}, List.Elements.{All-append, All-cons, All-nil}, List.Sums.{sum_by-append, sum_by-cons}}
 use Rattle.ptu_messages.specs.declared.header.Header.{Header}
-use Rattle.ptu_history.specs.{declared.client.Client.{Client}, Verdict.{profile}}
+use Rattle.ptu_units.specs.declared.client.Client.{Client}
+use Rattle.ptu_history.specs.Verdict.{profile}
 use Rattle.ptu_messages.specs.declared.tlv.Tlv.{Tlv}
 use Rattle.ptu_messages.specs.declared.message.Body.{Body}
 use Rattle.ptu_messages.specs.declared.message.Body.TheVariants as body

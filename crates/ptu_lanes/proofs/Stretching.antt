@@ -10,6 +10,7 @@ use Rattle.ptu_outside.proofs.HandsOver.{goes_on_both, not_fallen_both, not_fall
 use Rattle.ptu_profile.specs.declared.grandmaster.GmConfig.{GmConfig}
 use Rattle.ptu_shared.specs.{Opening.{HaveFailed}, Seats.{SeatCounts}}
 use Rattle.ptu_shared.proofs.Failing.{failed-append, failed_bounded, failed_none}
+use Rattle.ptu_outside.specs.Rounds.{most}
 use Rattle.ptu_lanes.specs.Answers.{asks_among, grants_among}
 use Rattle.ptu_lanes.specs.Rounds.{Exchange, Exchanged, IsAnswered, IsRound, answers_of, asks_in, datagrams, items_of, replies, reply_in}
 use Rattle.ptu_lanes.specs.{Sending.{GoesOn, WasSent}, Waiting.{GaveFirst, MissedFew, Took}}
@@ -20,29 +21,29 @@ use Rattle.ptu_lanes.proofs.Taking.{none_taken, took-append, took_up_to}
 -- ---- what waited
 
 -- the first of a list, and then the first of the rest
-front_more : {A : Type 0} (n m : ℕ) (xs : List A) → take (64 * n) xs ++ take (64 * m) (drop (64 * n) xs) ≡ take (64 * (n + m)) xs
+front_more : {A : Type 0} (n m : ℕ) (xs : List A) → take (most * n) xs ++ take (most * m) (drop (most * n) xs) ≡ take (most * (n + m)) xs
 front_more n m xs =
-    let e : 64 * n + 64 * m ≡ 64 * (n + m) = omega arith in
-    sym (take-add (64 * n) (64 * m) xs) ∙ ap (λ k. take k xs) e
+    let e : most * n + most * m ≡ most * (n + m) = omega arith in
+    sym (take-add (most * n) (most * m) xs) ∙ ap (λ k. take k xs) e
 
-rest_more : {A : Type 0} (n m : ℕ) (xs : List A) → drop (64 * m) (drop (64 * n) xs) ≡ drop (64 * (n + m)) xs
+rest_more : {A : Type 0} (n m : ℕ) (xs : List A) → drop (most * m) (drop (most * n) xs) ≡ drop (most * (n + m)) xs
 rest_more n m xs =
-    let e : 64 * n + 64 * m ≡ 64 * (n + m) = omega arith in
-    drop-drop (64 * m) (64 * n) xs ∙ ap (λ k. drop k xs) e
+    let e : most * n + most * m ≡ most * (n + m) = omega arith in
+    drop-drop (most * m) (most * n) xs ∙ ap (λ k. drop k xs) e
 
-gave_none : (waiting : Option (List Arrival)) → GaveFirst (64 * 0) waiting waiting
+gave_none : (waiting : Option (List Arrival)) → GaveFirst (most * 0) waiting waiting
 gave_none None = tt
 gave_none (Some waited) = (waited, refl, refl)
 
 gave-append : (n m : ℕ) (waiting middle left : Option (List Arrival)) →
-    GaveFirst (64 * n) waiting middle → GaveFirst (64 * m) middle left → GaveFirst (64 * (n + m)) waiting left
+    GaveFirst (most * n) waiting middle → GaveFirst (most * m) middle left → GaveFirst (most * (n + m)) waiting left
 gave-append n m waiting middle None first second = tt
 gave-append n m waiting None (Some later) first second = absurd (cc second.1)
 gave-append n m waiting (Some between) (Some later) first second =
     let same : between ≡ second.0 = cc second.1 in (
       first.0,
       first.1,
-      second.2 ∙ ap (drop (64 * m)) (sym same ∙ first.2) ∙ rest_more n m first.0,
+      second.2 ∙ ap (drop (most * m)) (sym same ∙ first.2) ∙ rest_more n m first.0,
     )
 
 -- ---- the lane that takes Signaling
@@ -80,15 +81,15 @@ rounds-append : {P : Type 0} (ports : Ports P) (greatest : ℕ) (config : GmConf
     AreRounds ports greatest config (n + m) p0 p2 left old new
 rounds-append ports greatest config n m p0 p1 p2 left old now new earlier q =
     let p = told_is (ports.waiting p1) (λ later. AreRounds ports greatest config n p0 p1 later old now) q.waited q.all earlier in
-    let same : q.waited ≡ drop (64 * n) p.waited = p.rest in
+    let same : q.waited ≡ drop (most * n) p.waited = p.rest in
     let sent : replies config (p.exchanges ++ q.exchanges) ≡ replies config p.exchanges ++ replies config q.exchanges = flat_map-append (reply_in config) p.exchanges q.exchanges in
     record {
       waited = p.waited;
       all = p.all;
       exchanges = p.exchanges ++ q.exchanges;
       first = map-append (λ (e : Exchange). e.datagram) p.exchanges q.exchanges ∙ ap (λ xs. xs ++ datagrams q.exchanges) p.first
-          ∙ ap (λ xs. take (64 * n) p.waited ++ xs) (q.first ∙ ap (take (64 * m)) same) ∙ front_more n m p.waited;
-      rest = q.rest ∙ ap (drop (64 * m)) same ∙ rest_more n m p.waited;
+          ∙ ap (λ xs. take (most * n) p.waited ++ xs) (q.first ∙ ap (take (most * m)) same) ∙ front_more n m p.waited;
+      rest = q.rest ∙ ap (drop (most * m)) same ∙ rest_more n m p.waited;
       answered = All-append (IsAnswered greatest config) p.exchanges q.exchanges p.answered q.answered;
       told = subst (λ ds. WasSent ports p0 p2 ds) (sym sent)
           (told_both (ports.sent p0) (ports.sent p1) (ports.sent p2) (replies config p.exchanges) (replies config q.exchanges) p.told q.told);
@@ -143,7 +144,7 @@ module _ {P C : Type 0} (ports : Ports P) (clocks : Clocks C) where
   }
 
   pub signaling_one : (greatest : ℕ) (config : GmConfig) (port port' : P) (clock clock' : C) (old new : SeatCounts) (asks sent more gone gone' failed failed' : ℕ) →
-      new.granted + new.refused ≡ old.granted + old.refused + asks → asks ≤ 2048 →
+      new.granted + new.refused ≡ old.granted + old.refused + asks → asks ≤ 32 * most →
       (¬ HasRisen (ports.faults port) (ports.faults port') → IfSome (ports.waiting port') (λ left. IsRound ports greatest config port port' left old.granted new.granted asks sent)) →
       Exchanged ports clocks greatest config 1 sent more port port' clock clock' old new →
       gone' ≡ min (gone + sent) (2 ^ 128 - 1) → failed' ≡ min (failed + more) (2 ^ 64 - 1) →
@@ -189,7 +190,7 @@ module _ {P C : Type 0} (ports : Ports P) (clocks : Clocks C) where
   }
 
   pub delays_one : (port port' : P) (clock clock' : C) (missed failed failed' : ℕ) →
-      (¬ HasRisen (ports.faults port) (ports.faults port') → GaveFirst 64 (ports.waiting port) (ports.waiting port')) → Took ports clocks 64 0 port port' clock clock' →
+      (¬ HasRisen (ports.faults port) (ports.faults port') → GaveFirst most (ports.waiting port) (ports.waiting port')) → Took ports clocks most 0 port port' clock clock' →
       ports.sent port' ≡ ports.sent port → HaveFailed ports.counts_once missed (ports.faults port) (ports.faults port') → missed ≤ 1 →
       failed' ≡ min (failed + missed) (2 ^ 64 - 1) → TookDelayReqs ports clocks 1 port port' clock clock' failed failed'
   delays_one port port' clock clock' missed failed failed' gave took unsent failures once is = record {
@@ -205,7 +206,7 @@ module _ {P C : Type 0} (ports : Ports P) (clocks : Clocks C) where
   pub delays_waited : (n : ℕ) (p0 p1 p2 : P) (c0 c1 : C) (f0 f1 : ℕ) → ports.sent p2 ≡ ports.sent p1 → ports.waiting p2 ≡ ports.waiting p1 →
       ports.faults p2 ≡ ports.faults p1 → TookDelayReqs ports clocks n p0 p1 c0 c1 f0 f1 → TookDelayReqs ports clocks n p0 p2 c0 c1 f0 f1
   delays_waited n p0 p1 p2 c0 c1 f0 f1 sent waiting faults d = record {
-    gave = λ same. subst (λ w. GaveFirst (64 * n) (ports.waiting p0) w) (sym waiting)
+    gave = λ same. subst (λ w. GaveFirst (most * n) (ports.waiting p0) w) (sym waiting)
         (d.gave (λ rises. same (subst (λ k. HasRisen (ports.faults p0) k) (sym faults) rises)));
     took = record {
       datagrams = d.took.datagrams;
@@ -225,7 +226,7 @@ module _ {P C : Type 0} (ports : Ports P) (clocks : Clocks C) where
     gave = λ same. gave-append n m (ports.waiting p0) (ports.waiting p1) (ports.waiting p2)
         (p.gave (λ rises. same (rises_first (ports.faults p0) (ports.faults p1) (ports.faults p2) rises q.no_fall)))
         (q.gave (λ rises. same (rises_second (ports.faults p0) (ports.faults p1) (ports.faults p2) p.no_fall rises)));
-    took = took-append ports clocks (64 * (n + m)) (64 * n) (64 * m) 0 p0 p1 p2 c0 c1 c2 (omega arith) p.took q.took;
+    took = took-append ports clocks (most * (n + m)) (most * n) (most * m) 0 p0 p1 p2 c0 c1 c2 (omega arith) p.took q.took;
     unsent = q.unsent ∙ p.unsent;
     missed = missed-append n m p0 p1 p2 p.missed q.missed;
     failures = λ start f. q.failures start (p.failures start f);

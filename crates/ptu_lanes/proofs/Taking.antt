@@ -9,6 +9,7 @@ use Rattle.ptu_outside.specs.Telling.{IfTold, IsFirstTold, rest_told}
 use Rattle.ptu_outside.proofs.Telling.{IfTold-refl}
 use Rattle.ptu_shared.specs.Opening.{HaveFailed}
 use Rattle.ptu_shared.proofs.Failing.{failed-append, failed_none}
+use Rattle.ptu_outside.specs.Rounds.{most}
 use Rattle.ptu_lanes.specs.Waiting.{GaveFirst, HasTaken, Took}
 use Rattle.ptu_lanes.proofs.Moments.{passed-append, passed_as, passed_none, passed_one}
 
@@ -39,13 +40,13 @@ given_more xs ys waiting (Some more) (Some later) first second =
 
 -- ---- a whole round
 
-pub front_is : (xs : List Arrival) (later : List Arrival) → length xs ≤ 64 → (length xs ≡ 64) ⊎ (later ≡ []) →
-    (xs ≡ take 64 (xs ++ later)) × (later ≡ drop 64 (xs ++ later))
+pub front_is : (xs : List Arrival) (later : List Arrival) → length xs ≤ most → (length xs ≡ most) ⊎ (later ≡ []) →
+    (xs ≡ take most (xs ++ later)) × (later ≡ drop most (xs ++ later))
 front_is xs later few (inl many) =
     (subst (λ n. xs ≡ take n (xs ++ later)) many (sym (take-append_seam xs later)), subst (λ n. later ≡ drop n (xs ++ later)) many (sym (drop-append_seam xs later)))
 front_is xs later few (inr none) =
     let all : xs ++ later ≡ xs = ap (λ l. xs ++ l) none ∙ append-nil xs in
-    (sym (ap (take 64) all ∙ take_all 64 xs few), none ∙ sym (ap (drop 64) all ∙ drop_of_length-le xs few))
+    (sym (ap (take most) all ∙ take_all most xs few), none ∙ sym (ap (drop most) all ∙ drop_of_length-le xs few))
 
 module _ {P C : Type 0} (ports : Ports P) (clocks : Clocks C) where
   pub none_taken : (port : P) (clock : C) → HasTaken ports clocks 0 0 port port clock clock
@@ -115,17 +116,17 @@ module _ {P C : Type 0} (ports : Ports P) (clocks : Clocks C) where
         (passed-append (length p.datagrams + 0) (length q.datagrams + more) (clocks.moments c0) (clocks.moments c1) (clocks.moments c2) p.moments q.moments);
   }
 
-first_gave : (taken : List Arrival) (waiting left : Option (List Arrival)) → IfSome left (λ later. waiting ≡ Some (taken ++ later)) → length taken ≤ 64 →
-    (length taken ≡ 64) ⊎ IfSome left (λ later. later ≡ []) → GaveFirst 64 waiting left
+first_gave : (taken : List Arrival) (waiting left : Option (List Arrival)) → IfSome left (λ later. waiting ≡ Some (taken ++ later)) → length taken ≤ most →
+    (length taken ≡ most) ⊎ IfSome left (λ later. later ≡ []) → GaveFirst most waiting left
 first_gave taken waiting None given few over = tt
 first_gave taken waiting (Some later) given few over = (taken ++ later, given, (front_is taken later few over).1)
 
 -- a round that took 64 datagrams, or after which nothing waits
-pub gave_first : {P C : Type 0} (ports : Ports P) (clocks : Clocks C) (count missed : ℕ) (port port' : P) (clock clock' : C) → HasTaken ports clocks count missed port port' clock clock' → count ≤ 64 →
-    (count ≡ 64) ⊎ IfSome (ports.waiting port') (λ later. later ≡ []) → GaveFirst 64 (ports.waiting port) (ports.waiting port')
+pub gave_first : {P C : Type 0} (ports : Ports P) (clocks : Clocks C) (count missed : ℕ) (port port' : P) (clock clock' : C) → HasTaken ports clocks count missed port port' clock clock' → count ≤ most →
+    (count ≡ most) ⊎ IfSome (ports.waiting port') (λ later. later ≡ []) → GaveFirst most (ports.waiting port) (ports.waiting port')
 gave_first ports clocks count missed port port' clock clock' t few over =
     first_gave t.taken (ports.waiting port) (ports.waiting port') t.given (omega (arith, t.many, few)) (ends over)
   where
-    ends : (count ≡ 64) ⊎ IfSome (ports.waiting port') (λ later. later ≡ []) → (length t.taken ≡ 64) ⊎ IfSome (ports.waiting port') (λ later. later ≡ [])
+    ends : (count ≡ most) ⊎ IfSome (ports.waiting port') (λ later. later ≡ []) → (length t.taken ≡ most) ⊎ IfSome (ports.waiting port') (λ later. later ≡ [])
     ends (inl all) = inl (omega (arith, t.many, all))
     ends (inr none) = inr none

@@ -3,7 +3,8 @@
 use Rattle.std.specs.Prelude.{◌≡◌, ◌⊎◌, ℕ, ◌+◌, ◌≤◌, min, if◌then◌else◌, List, [], ◌∷◌, Option, Some, None, IfSome, IsSome, Result, Ok, Err, IsOk}
 use Rattle.std.specs.List.{sum_by}
 use Rattle.ptu_units.specs.{declared.kind.Kind.{Kind}, Kind.{kind_of}}
-use Rattle.ptu_history.specs.{declared.client.Client.{Client}, Verdict.{profile}}
+use Rattle.ptu_units.specs.declared.client.Client.{Client}
+use Rattle.ptu_history.specs.Verdict.{profile}
 use Rattle.ptu_messages.specs.declared.tlv.{Ask.{Ask}, Tlv.{Tlv}}
 use Rattle.ptu_messages.specs.declared.tlv.Tlv.TheVariants as tlv
 use Rattle.ptu_profile.specs.declared.grandmaster.GmConfig.{GmConfig}

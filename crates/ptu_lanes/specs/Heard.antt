@@ -1,11 +1,10 @@
 -- What is taken of a control port, and what is answered there (the project's own choice).
 use Rattle.std.specs.Prelude.{◌≡◌, ◌≤◌, ℕ, ◌+◌, false, List, [], ◌∷◌, flat_map, length, Option, Some, None, Result, Ok, Err, IfNone, IfSome}
 use Rattle.std.specs.List.{All}
-use Rattle.ptu_units.specs.declared.kind.Kind.{Kind}
+use Rattle.ptu_units.specs.declared.{client.Client.{Client}, kind.Kind.{Kind}}
 use Rattle.ptu_outside.specs.{declared.arrival.Arrival.{Arrival}, declared.port.Port.{Ghosts as Ports}, Departure.{Departure}}
 use Rattle.ptu_outside.specs.declared.channel.Channel.TheVariants as channels
 use Rattle.ptu_outside.specs.{Faults.{HasNotFallen, HasRisen}, Handed.{WasHanded}, HandsOver.{HandsOver}, Taken.{Gave}}
-use Rattle.ptu_history.specs.declared.client.Client.{Client}
 use Rattle.ptu_profile.specs.declared.grandmaster.GmConfig.{GmConfig}
 use Rattle.ptu_shared.specs.Opening.{HaveFailed}
 use Rattle.ptu_config.specs.{declared.settings.GmSettings.{GmSettings}, Answers.{reply_text}}

@@ -6,6 +6,7 @@ use Rattle.ptu_outside.specs.{declared.arrival.Arrival.{Arrival}, Departure.{Dep
 use Rattle.ptu_outside.specs.declared.{clock.Clock.{Ghosts as Clocks}, port.Port.{Ghosts as Ports}}
 use Rattle.ptu_outside.specs.Faults.{HasRisen, HasRisenBy, HasRisenJust, HasNotFallen}
 use Rattle.ptu_outside.specs.HandsOver.{HandsOver, SentOf}
+use Rattle.ptu_outside.specs.Rounds.{most}
 use Rattle.ptu_messages.specs.declared.header.Header.{Header}
 use Rattle.ptu_messages.specs.declared.tlv.Tlv.{Tlv}
 use Rattle.ptu_profile.specs.declared.grandmaster.GmConfig.{GmConfig}
@@ -119,13 +120,13 @@ pub record IsRound {P : Type 0} (ports : Ports P) (greatest : ℕ) (config : GmC
   pub waited : List Arrival
   pub all : ports.waiting port ≡ Some waited
   pub exchanges : List Exchange
-  pub first : datagrams exchanges ≡ take 64 waited
-  pub rest : left ≡ drop 64 waited
+  pub first : datagrams exchanges ≡ take most waited
+  pub rest : left ≡ drop most waited
   pub answered : All (IsAnswered greatest config) exchanges
   pub told : WasSent ports port port' (replies config exchanges)
   pub goes_on : GoesOn ports port port' (replies config exchanges)
   pub sent_are : sent ≡ length (replies config exchanges)
-  pub asks_are : asks ≡ asks_in config (take 64 waited)
+  pub asks_are : asks ≡ asks_in config (take most waited)
   pub granted_are : now ≡ granted + grants_in exchanges
 
 -- so many rounds, whatever became of the port's count of faults, and whether or not it tells what waits: the lane had at most 64
@@ -134,7 +135,7 @@ pub record IsRound {P : Type 0} (ports : Ports P) (greatest : ℕ) (config : GmC
 -- sent so many, in order. So many calls of the port failed: each send of another reply, and one receive a round at most, which ends it.
 pub record Exchanged {P C : Type 0} (ports : Ports P) (clocks : Clocks C) (greatest : ℕ) (config : GmConfig) (rounds sent failed : ℕ) (port port' : P) (clock clock' : C) (old new : SeatCounts) : Type 0 where
   pub exchanges : List Exchange
-  pub few : length exchanges ≤ 64 * rounds
+  pub few : length exchanges ≤ most * rounds
   pub given : IfSome (ports.waiting port') (λ later. ports.waiting port ≡ Some (datagrams exchanges ++ later))
   pub answered : All (IsAnswered greatest config) exchanges
   pub granted : new.granted ≡ old.granted + grants_in exchanges
@@ -162,7 +163,7 @@ pub record IsUnanswered {P C : Type 0} (ports : Ports P) (clocks : Clocks C) (po
 pub record BrokeOff {P C : Type 0} (ports : Ports P) (clocks : Clocks C) (greatest : ℕ) (config : GmConfig) (port port' : P) (clock clock' : C) (old new : SeatCounts) : Type 0 where
   pub exchanges : List Exchange
   pub last : Arrival
-  pub few : length exchanges < 64
+  pub few : length exchanges < most
   pub given : IfSome (ports.waiting port') (λ later. ports.waiting port ≡ Some ((datagrams exchanges ++ last ∷ []) ++ later))
   pub answered : All (IsAnswered greatest config) exchanges
   pub told : ¬ HasRisen (ports.faults port) (ports.faults port') → WasSent ports port port' (replies config exchanges)

@@ -1,10 +1,9 @@
 -- What lanes do, part by part, and in several rounds.
 use Rattle.std.specs.Prelude.{◌≡◌, ℕ, Bool, false, ◌+◌, ◌*◌, ◌^◌, ◌-◌, ◌≤◌, min, List, [], ◌++◌, length, Option, Some, None, IfSome}
 use Rattle.std.specs.List.{All}
-use Rattle.ptu_units.specs.declared.kind.Kind.{Kind}
+use Rattle.ptu_units.specs.declared.{client.Client.{Client}, kind.Kind.{Kind}}
 use Rattle.ptu_outside.specs.declared.{arrival.Arrival.{Arrival}, clock.Clock.{Ghosts as Clocks}, port.Port.{Ghosts as Ports}}
 use Rattle.ptu_outside.specs.{Departure.{Departure}, Faults.{HasNotFallen, HasRisen}, Handed.{WasHanded}}
-use Rattle.ptu_history.specs.declared.client.Client.{Client}
 use Rattle.ptu_profile.specs.declared.grandmaster.GmConfig.{GmConfig}
 use Rattle.ptu_shared.specs.{Opening.{HaveFailed}, Seats.{SeatCounts}, Turning.{Turns, after_rounds}}
 use Rattle.ptu_gm_messages.specs.Replies.{cancels_to}

@@ -14,13 +14,12 @@ use crate::signaling::{Control, IDLE};
 use ptu_admit::Cancelled;
 use ptu_gm_messages::{Heard, Item, client_of, hear};
 use ptu_grandmaster::{Outcome, Outcomes, reply_of};
-use ptu_history::Client;
 use ptu_messages::Header;
 use ptu_outside::{Channel, Port, Sends, hand};
 use ptu_profile::GmConfig;
 use ptu_shared::{Rates, Seat};
 use ptu_units::sizes::LONGEST_SIGNALING;
-use ptu_units::{Kind, Moment, OutOfMemory};
+use ptu_units::{Client, Kind, Moment, OutOfMemory};
 use std::sync::Wait;
 use std::sync::ledger::Ledger;
 

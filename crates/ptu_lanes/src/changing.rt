@@ -2,8 +2,7 @@
 
 ghost use Rattle.std.specs.Prelude.{◌≡◌, ◌+◌, ◌-◌, ◌^◌, ◌≤◌, min, ℕ, IfOk, OnErr, OnOk, ◌%◌, length, List};
 ghost use Rattle.ptu_outside.specs.HandsOver.{HandsOver};
-ghost use Rattle.ptu_units.specs.declared.kind.Kind.{Kind};
-ghost use Rattle.ptu_history.specs.declared.client.Client.{Client};
+ghost use Rattle.ptu_units.specs.declared.{client.Client.{Client}, kind.Kind.{Kind}};
 ghost use Rattle.ptu_gm_messages.specs.Replies.{cancels_to};
 ghost use Rattle.ptu_lanes.specs.{Changing.{new_with}, Waiting.{PassedBy}};
 

@@ -2,13 +2,14 @@
 
 ghost use Rattle.std.specs.Prelude.{◌≡◌, ◌+◌, ◌≤◌, [], true, false, if◌then◌else◌, IfOk, IfSome, OnErr};
 ghost use Rattle.ptu_outside.specs.Faults.{HasNotFallen, HasRisen};
+ghost use Rattle.ptu_outside.specs.Rounds.{most as most_in_round};
 ghost use Rattle.ptu_shard.specs.Answered.{failed_by, sent_by};
 ghost use Rattle.ptu_shared.specs.Opening.{HaveFailed};
 ghost use Rattle.ptu_lanes.specs.Waiting.{GaveFirst, HasTaken, Took};
 
 use crate::answering::Origin;
 use crate::service::Service;
-use crate::signaling::MOST_DATAGRAMS;
+use ptu_config::MOST_DATAGRAMS;
 use ptu_gm_messages::{Heard, client_of, hear};
 use ptu_outside::{Clock, Port};
 use ptu_shard::Answered;
@@ -117,14 +118,15 @@ pub fn delay_round<P: Port + Send, C: Clock, L: Rates, G: Ledger, R: Ledger, W: 
     clock: &mut C,
 ) -> Result<Delays, OutOfMemory>
     requires config { service.now.base.now.config.now ≡ L.config }
-    ensures most { IfOk result (λ s. s.sent + s.failed + s.missed ≤ 64) }
+    ensures most { IfOk result (λ s. s.sent + s.failed + s.missed ≤ most_in_round) }
     // A receive that failed was the last.
     ensures once { IfOk result (λ s. s.missed ≤ 1) }
     // Where the port's count did not rise, these were the first that waited there.
     ensures round { IfOk result (λ s. ¬ HasRisen (P.faults port.old) (P.faults port.new)
-        → GaveFirst 64 (P.waiting port.old) (P.waiting port.new)) }
+        → GaveFirst most_in_round (P.waiting port.old) (P.waiting port.new)) }
     // Whatever its count did, whether or not it tells, and after want of memory too.
-    ensures took { Took P.Port C.Clock 64 0 port.old port.new clock.old clock.new }
+    ensures took { Took P.Port C.Clock most_in_round 0
+        port.old port.new clock.old clock.new }
     // Each receive that failed is a fault, and there are no other faults.
     ensures failed { IfOk result (λ s.
         HaveFailed P.counts_once s.missed (P.faults port.old) (P.faults port.new)) }

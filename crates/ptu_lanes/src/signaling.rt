@@ -1,21 +1,20 @@
 //! Rounds of the lane that takes Signaling.
 
-ghost use Rattle.std.specs.Prelude.{◌≡◌, ◌+◌, ◌^◌, ◌≤◌, ℕ, List, [], length, true, false, if◌then◌else◌, IfOk, IfSome, OnErr};
+ghost use Rattle.std.specs.Prelude.{◌≡◌, ◌+◌, ◌*◌, ◌^◌, ◌≤◌, ℕ, List, [], length, true, false, if◌then◌else◌, IfOk, IfSome, OnErr};
 ghost use Rattle.ptu_outside.specs.Faults.{HasNotFallen, HasRisen, HasRisenBy, HasRisenJust};
+ghost use Rattle.ptu_outside.specs.Rounds.{most as most_in_round};
 ghost use Rattle.ptu_lanes.specs.Rounds.{BrokeOff, Exchange, Exchanged, HasServed, IsRound, IsUnanswered};
 ghost use Rattle.ptu_lanes.specs.Waiting.{PassedBy};
 
 use crate::answering::{Origin, answer_datagram};
 use crate::service::Service;
+use ptu_config::MOST_DATAGRAMS;
 use ptu_outside::{Clock, Port};
 use ptu_shared::{Rates, Seat};
 use ptu_units::OutOfMemory;
 use ptu_units::sizes::LONGEST_DATAGRAM;
 use std::sync::Wait;
 use std::sync::ledger::Ledger;
-
-/// How many datagrams a lane takes in a round at most.
-pub(crate) const MOST_DATAGRAMS: u64 = 64;
 
 /// What a lane did that takes Signaling.
 #[derive(Clone, Copy, Debug, PartialEq, Eq)]
@@ -96,7 +95,8 @@ pub fn control_round<P: Port + Send, C: Clock, L: Rates, G: Ledger, R: Ledger, W
         ≡ seat.old.granted + seat.old.refused + c.asks) }
     ensures no_less { IfOk result (λ c. (seat.old.granted ≤ seat.new.granted)
         × (seat.old.refused ≤ seat.new.refused)) }
-    ensures most { IfOk result (λ c. (c.asks ≤ 2048) × (c.sent ≤ 64) × (c.failed ≤ 64)) }
+    ensures most { IfOk result (λ c. (c.asks ≤ 32 * most_in_round)
+        × (c.sent ≤ most_in_round) × (c.failed ≤ most_in_round)) }
     // Where the port tells what waits, and its count did not rise, these are the datagrams that it
     // took, what answered them, and what was counted.
     ensures round { IfOk result (λ c. ¬ HasRisen (P.faults port.old) (P.faults port.new) →

@@ -4,7 +4,7 @@ use Rattle.std.specs.List.{All, list_any, sum_by}
 use Rattle.std.proofs.lemmas.Bool.{leb-true, or_from, or_parts, true≢false}
 use Rattle.std.proofs.lemmas.List.{Elements.{All-head, All-tail}, Folds.{list_any-append}}
 use Rattle.std.proofs.lemmas.List.Sums.{sum_by-cons}
-use Rattle.ptu_history.specs.declared.client.Client.{Client}
+use Rattle.ptu_units.specs.declared.client.Client.{Client}
 use Rattle.ptu_history.specs.{History.{Record, Granted, Sent, is_change, is_sent}, Live.{Grant}}
 use Rattle.ptu_history.specs.Verdict.{Config, Verdict, verdict, GrantedFor, ShortOf, Outside}
 use Rattle.ptu_history.specs.Events.{Event, Request, Cancel, Turn, DelayReq, Resize, Answer, Answered, NoGrant, TooSoon}

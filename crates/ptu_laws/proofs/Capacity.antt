@@ -4,7 +4,7 @@ use Rattle.std.specs.List.{filter}
 use Rattle.std.proofs.lemmas.{Bool.{eqb-true, lt-ltb, ltb-true, ltb-false}, List.{append-nil}}
 use Rattle.std.proofs.lemmas.List.{Elements.{filter-append}, Sums.{sum_by-append, sum_by-cons}}
 use Rattle.ptu_units.specs.{declared.kind.Kind.{Kind}, Log.{rate_of}}
-use Rattle.ptu_history.specs.{declared.client.Client.{Client}, Client.{same_lease}}
+use Rattle.ptu_units.specs.{declared.client.Client.{Client}, Client.{same_lease}}
 use Rattle.ptu_history.specs.History.{Record, Granted, Short, Ended, Capacity, Shed, Looked, Sent, capacity_in_force, is_change, is_decision, moment_of}
 use Rattle.ptu_history.specs.{Moments.{book_moment}, Live.{Grant, live_grants, standing, without}}
 use Rattle.ptu_history.specs.{Verdict.{Config, others, rate_sum}, Events.{Event}}

@@ -9,10 +9,11 @@ use Rattle.std.proofs.lemmas.List.Elements.{All-filter, All-head, All-tail, filt
 use Rattle.std.proofs.lemmas.List.{Kept.{AllPairs-filter}, Sums.{sum_by-cons}}
 use Rattle.ptu_units.specs.declared.kind.{Kind.{Kind}, Kind.TheVariants.{Announce, Sync, DelayResp}}
 use Rattle.ptu_units.specs.Log.{IsLogOf, period_of, rate_of}
-use Rattle.ptu_history.specs.{declared.client.Client.{Client}, Client.{same_lease}}
+use Rattle.ptu_units.specs.{declared.client.Client.{Client}, Client.{same_lease}}
 use Rattle.ptu_history.specs.History.{Record}
 use Rattle.ptu_history.specs.Held.{Payment, Term, held, is_in_term, payments, terms}
-use Rattle.ptu_history.proofs.{Keys.{same_lease-true}, Lists.{list_any-filter}}
+use Rattle.ptu_units.proofs.Keys.{same_lease-true}
+use Rattle.ptu_history.proofs.Lists.{list_any-filter}
 use Rattle.ptu_laws.specs.Paid.{IsBefore, IsPaid, is_held_at, is_term_at}
 use Rattle.ptu_laws.proofs.{Payments.{pairs_head, pairs_tail}, Sums.{sum-filter}}
 

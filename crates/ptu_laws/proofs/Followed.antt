@@ -5,7 +5,7 @@ use Rattle.std.proofs.lemmas.{List.{append-nil}, Bool.{and_parts}}
 use Rattle.std.proofs.lemmas.List.Elements.{All-head, All-tail, All-weaker, filter_passes}
 use Rattle.std.proofs.lemmas.List.Sorted.{All-permutation}
 use Rattle.ptu_units.specs.declared.kind.{Kind.{Kind}, Kind.TheVariants.{DelayResp}}
-use Rattle.ptu_history.specs.{declared.client.Client.{Client}, Client.{same_lease, table_of}}
+use Rattle.ptu_units.specs.{declared.client.Client.{Client}, Client.{same_lease, table_of}}
 use Rattle.ptu_history.specs.History.{Record, Granted, Short, Ended, Capacity, Shed, Looked, Sent}
 use Rattle.ptu_history.specs.Live.{Grant, IsDistinctByLease, live, live_grants}
 use Rattle.ptu_history.specs.{Lawful.{earliest, lawful}, Order.{in_order}}
@@ -13,7 +13,7 @@ use Rattle.ptu_history.specs.Verdict.{Ask, OutsideLog, OutsideDuration, is_log_o
 use Rattle.ptu_history.specs.Events.{Answered, NoGrant, TooSoon}
 use Rattle.ptu_history.specs.Turns.{due_grants, is_due, is_turned, sent_record, turn_cmp}
 use Rattle.ptu_history.specs.Step.{answer_records, delay_answer}
-use Rattle.ptu_history.proofs.Keys.{same_lease-sym, same_lease-true}
+use Rattle.ptu_units.proofs.Keys.{same_lease-sym, same_lease-true}
 use Rattle.ptu_history.proofs.{Order.{IsPermutation-in_order}, Orders.{due_grants-distinct}}
 use Rattle.ptu_history.proofs.Strangers.{lawful-push}
 use Rattle.ptu_laws.specs.Sound.{last_sent}

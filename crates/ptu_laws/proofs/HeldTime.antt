@@ -4,10 +4,10 @@ use Rattle.std.specs.{List.{find, list_any}, Option.{option_or}, Ordering.{int_e
 use Rattle.std.proofs.lemmas.Bool.{and_from, and_parts, or_left, or_right, false≢true, le-leb, lt-ltb, ltb-true}
 use Rattle.std.proofs.lemmas.{Bool.Decides.{Decides-int_eq}, List.Folds.{find-append}}
 use Rattle.ptu_units.specs.declared.kind.Kind.{Kind}
-use Rattle.ptu_history.specs.{declared.client.Client.{Client}, Client.{same_lease}}
+use Rattle.ptu_units.specs.{declared.client.Client.{Client}, Client.{same_lease}}
 use Rattle.ptu_history.specs.History.{Record, Granted, Short, Ended, Capacity, Shed, Looked, Sent, decides, moment_of}
 use Rattle.ptu_history.specs.Held.{Term, end_of, terms}
-use Rattle.ptu_history.proofs.Keys.{same_lease-refl, same_lease-true}
+use Rattle.ptu_units.proofs.Keys.{same_lease-refl, same_lease-true}
 use Rattle.ptu_laws.specs.Paid.{is_held_at, is_term_at}
 
 module _ (c : Client) (k : Kind) (l : ℤ) (x : ℕ) where

@@ -2,10 +2,11 @@
 use Rattle.std.proofs.Common.{◌≡◌, ◌∙◌, ℕ, ◌+◌, ◌≤◌, max, ◌++◌, List, [], ◌∷◌, true, false, sym, ap, arith}
 use Rattle.std.proofs.lemmas.Bool.{false≢true}
 use Rattle.ptu_units.specs.declared.kind.{Kind.{Kind}, Kind.TheVariants.{Announce, Sync, DelayResp}}
-use Rattle.ptu_history.specs.declared.client.Client.{Client}
+use Rattle.ptu_units.specs.declared.client.Client.{Client}
 use Rattle.ptu_history.specs.History.{Record, Granted, Short, Ended, Capacity, Shed, Looked, Sent, concerns, decides}
 use Rattle.ptu_history.specs.Lawful.{earliest, last_period}
-use Rattle.ptu_history.proofs.{Keys.{same_lease-true}, Renewals.{earliest_delay, earliest_sent}}
+use Rattle.ptu_units.proofs.Keys.{same_lease-true}
+use Rattle.ptu_history.proofs.Renewals.{earliest_delay, earliest_sent}
 
 -- a message that is not early puts the next one off by at least a period
 pub earliest-sent_le : (history : List Record) (x : ℕ) (c : Client) (k : Kind) → earliest history c k ≤ x → earliest history c k + last_period history c k ≤ earliest (history ++ Sent x c k ∷ []) c k

@@ -4,13 +4,13 @@ use Rattle.std.specs.List.{All, AllPairs}
 use Rattle.std.proofs.lemmas.Bool.{and_parts, false≢true, leb-true, ltb-true, ltb-false}
 use Rattle.std.proofs.lemmas.List.{Elements.{All-nil, All-push, All-weaker}, Kept.{AllPairs-cons}}
 use Rattle.ptu_units.specs.{declared.kind.Kind.{Kind}, Log.{period_of}}
-use Rattle.ptu_history.specs.{declared.client.Client.{Client}, Client.{same_lease}}
+use Rattle.ptu_units.specs.{declared.client.Client.{Client}, Client.{same_lease}}
 use Rattle.ptu_history.specs.History.{Record, Granted, Short, Ended, Capacity, Shed, Looked, Sent, concerns, decides, is_decision, moment_of, lease_records}
 use Rattle.ptu_history.specs.{Live.{last_decision, live}, Runs.{chain, continues}}
 use Rattle.ptu_history.specs.{Lawful.{earliest, last_period, lawful}, Verdict.{is_log_of}}
 use Rattle.ptu_history.specs.Held.{Payment, payment, payments, payments_after}
 use Rattle.ptu_history.proofs.PaymentLists.{payments-other, payments-sent}
-use Rattle.ptu_history.proofs.Keys.{same_lease-refl, same_lease-sym, same_lease-true}
+use Rattle.ptu_units.proofs.Keys.{same_lease-refl, same_lease-sym, same_lease-true}
 use Rattle.ptu_history.proofs.{Lists.{greatest_by-push}, Standing.{last_pushed}}
 use Rattle.ptu_history.proofs.Strangers.{chain-push, earliest-push}
 use Rattle.ptu_history.proofs.Renewals.{chain_is, earliest_new, earliest_same, last_period-granted}

@@ -1,7 +1,7 @@
 -- Sound lists whose messages are not before the start of their grants keep the promises, and so does every history of the core.
 use Rattle.std.proofs.Common.{◌≡◌, ◌∙◌, ℕ, ◌≤◌, List, [], Some, ℤ, sym, subst}
-use Rattle.ptu_units.specs.declared.kind.Kind.{Kind}
-use Rattle.ptu_history.specs.{declared.client.Client.{Client}, Core.{core_history}, Events.{Event}}
+use Rattle.ptu_units.specs.declared.{client.Client.{Client}, kind.Kind.{Kind}}
+use Rattle.ptu_history.specs.{Core.{core_history}, Events.{Event}}
 use Rattle.ptu_history.specs.{History.{Record, Granted}, Live.{last_decision}, Verdict.{Config}}
 use Rattle.ptu_laws.specs.{Promises.{IsSentAfter, KeepsPromises, PaysItsPeriod}, Sound.{IsSound}}
 use Rattle.ptu_laws.proofs.{Bounds.{payment-there}, Budget.{count-sound}, Capacity.{held-sound}}

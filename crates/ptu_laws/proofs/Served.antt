@@ -6,11 +6,12 @@ use Rattle.std.proofs.lemmas.Bool.{and_from, and_parts, false≢true, leb-false,
 use Rattle.std.proofs.lemmas.Bool.Decides.{Decides-int_eq}
 use Rattle.std.proofs.lemmas.List.Elements.{All-head, All-tail}
 use Rattle.ptu_units.specs.{declared.kind.Kind.{Kind}, Log.{period_of}}
-use Rattle.ptu_history.specs.{declared.client.Client.{Client}, Client.{same_lease}}
+use Rattle.ptu_units.specs.{declared.client.Client.{Client}, Client.{same_lease}}
 use Rattle.ptu_history.specs.History.{Record, Granted, Sent}
 use Rattle.ptu_history.specs.{Live.{last_decision}, Lawful.{last_period}}
 use Rattle.ptu_history.specs.Held.{Payment, Term, is_by, is_in_term, payment, payments, payments_after, terms}
-use Rattle.ptu_history.proofs.{Keys.{same_lease-true}, Renewals.{last_period-granted}}
+use Rattle.ptu_units.proofs.Keys.{same_lease-true}
+use Rattle.ptu_history.proofs.Renewals.{last_period-granted}
 use Rattle.ptu_laws.specs.Paid.{IsBefore, IsPaid, is_held_at, is_term_at}
 use Rattle.ptu_laws.specs.Served.{count_below, held_time, held_time_at, is_grant_at, is_held, is_own_term, is_sent_to, periods_sent, sent_at, sum_sent}
 use Rattle.ptu_laws.specs.Sound.{IsSound}

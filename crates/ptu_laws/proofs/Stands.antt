@@ -5,7 +5,7 @@ use Rattle.std.proofs.lemmas.{List.{append-nil}, Bool.{and_parts, eq-eqb, falseâ
 use Rattle.std.proofs.lemmas.List.Elements.{All-head, All-tail, All-weaker}
 use Rattle.ptu_units.specs.{declared.kind.Kind.{Kind}, Kind.{kind_of}}
 use Rattle.ptu_units.specs.Log.{IsLogOf, least_log, rate_of}
-use Rattle.ptu_history.specs.{declared.client.Client.{Client}, Client.{same_lease, table_of}}
+use Rattle.ptu_units.specs.{declared.client.Client.{Client}, Client.{same_lease, table_of}}
 use Rattle.ptu_history.specs.History.{Record, Granted, Short, Ended, Capacity, Shed, Looked, Sent, capacity_in_force}
 use Rattle.ptu_history.specs.Moments.{book_moment, greatest_by, table_moment, table_part}
 use Rattle.ptu_history.specs.{Live.{Grant, live, live_grants, standing}, Lawful.{earliest, lawful}}
@@ -14,7 +14,8 @@ use Rattle.ptu_history.specs.Events.{Event, Request, Cancel, Turn, DelayReq, Res
 use Rattle.ptu_history.specs.{Turns.{due_grants, sent_record}, Shedding.{shed_grants, shed_record}}
 use Rattle.ptu_history.specs.Step.{answer_records, delay_answer, verdict_records}
 use Rattle.ptu_history.specs.Core.{core_history, core_step, table_step_moment, book_step_moment}
-use Rattle.ptu_history.proofs.{Currents.{standing-shed}, Keys.{eq-eqb-table, same_lease-true}}
+use Rattle.ptu_units.proofs.Keys.{eq-eqb-table, same_lease-true}
+use Rattle.ptu_history.proofs.Currents.{standing-shed}
 use Rattle.ptu_history.proofs.Lists.{filter-comm, greatest_by-push}
 use Rattle.ptu_history.proofs.Moments.{book_step_moment-bounds, table_step_moment-bounds}
 use Rattle.ptu_history.proofs.{Rates.{rates-fit, table_below}, Verdicts.{is_log_of-true}}

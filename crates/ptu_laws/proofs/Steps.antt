@@ -1,7 +1,7 @@
 -- Every record of a step has the step's moment, which is not before the book's or the table's.
 use Rattle.std.proofs.Common.{◌≡◌, ℕ, ◌≤◌, ◌++◌, max, List, [], ◌∷◌, map, refl, arith, append_assoc, subst, sym}
 use Rattle.std.proofs.lemmas.List.{append-nil}
-use Rattle.ptu_history.specs.{declared.client.Client.{Client}, Client.{table_of}}
+use Rattle.ptu_units.specs.{declared.client.Client.{Client}, Client.{table_of}}
 use Rattle.ptu_history.specs.History.{Record, Granted, Short, Ended, Capacity, Shed, Looked, Sent, moment_of}
 use Rattle.ptu_history.specs.Moments.{book_moment, book_part, table_moment, table_part}
 use Rattle.ptu_history.specs.Live.{Grant}

@@ -4,7 +4,7 @@ use Rattle.std.specs.List.{All}
 use Rattle.std.proofs.lemmas.{List.{append-nil}, Bool.{false≢true}}
 use Rattle.std.proofs.lemmas.List.Elements.{All-head, All-tail}
 use Rattle.ptu_units.specs.declared.kind.Kind.{Kind}
-use Rattle.ptu_history.specs.{declared.client.Client.{Client}, Client.{same_lease, table_of}}
+use Rattle.ptu_units.specs.{declared.client.Client.{Client}, Client.{same_lease, table_of}}
 use Rattle.ptu_history.specs.History.{Record, Granted, Short, Ended, Capacity, Shed, Looked, Sent, decides, lease_records, moment_of}
 use Rattle.ptu_history.specs.{Moments.{table_moment, table_part}, Live.{Grant, last_decision}}
 use Rattle.ptu_history.specs.Verdict.{Config, Verdict, GrantedFor, ShortOf, Outside, verdict}
@@ -12,7 +12,8 @@ use Rattle.ptu_history.specs.Events.{Event, Request, Cancel, Turn, DelayReq, Res
 use Rattle.ptu_history.specs.{Turns.{due_grants, sent_record}, Shedding.{shed_grants, shed_record}}
 use Rattle.ptu_history.specs.Step.{answer_records, delay_answer, verdict_records}
 use Rattle.ptu_history.specs.Core.{core_history, core_step, table_step_moment, book_step_moment}
-use Rattle.ptu_history.proofs.{Keys.{eq-eqb-table, same_lease-true}, Lists.{by_push}}
+use Rattle.ptu_units.proofs.Keys.{eq-eqb-table, same_lease-true}
+use Rattle.ptu_history.proofs.Lists.{by_push}
 use Rattle.ptu_history.proofs.LiveGrants.{LiveGrant, live-grant}
 use Rattle.ptu_history.proofs.Moments.{table_moment-push, table_step_moment-bounds}
 use Rattle.ptu_history.proofs.{Orders.{due_grants-table}, Standing.{last_pushed}}

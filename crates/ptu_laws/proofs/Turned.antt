@@ -5,7 +5,7 @@ use Rattle.std.proofs.lemmas.{Bool.{and_from, false≢true, eqb-true, leb-false,
 use Rattle.std.proofs.lemmas.List.Elements.{All-cons, All-contains, All-nil, All-push, All-weaker, Contains-append_left, Contains-append_right, Contains-push_cases}
 use Rattle.ptu_units.specs.declared.kind.{Kind.{Kind}, Kind.TheVariants.{Announce, Sync, DelayResp}}
 use Rattle.ptu_units.specs.Log.{IsLogOf, period_of, rate_of}
-use Rattle.ptu_history.specs.{declared.client.Client.{Client}, Client.{table_of}}
+use Rattle.ptu_units.specs.{declared.client.Client.{Client}, Client.{table_of}}
 use Rattle.ptu_history.specs.History.{Record, Granted, Short, Ended, Capacity, Shed, Looked, Sent, concerns, decides, lease_records, moment_of}
 use Rattle.ptu_history.specs.{Counts.{is_grant}, Moments.{greatest_by, table_moment, table_part}}
 use Rattle.ptu_history.specs.{Live.{Grant, is_live, is_of, last_decision, live}, Runs.{chain, continues, sent_in_chain}}
@@ -15,7 +15,8 @@ use Rattle.ptu_history.specs.Events.{Event, Request, Cancel, Turn, DelayReq, Res
 use Rattle.ptu_history.specs.Turns.{due_grants, is_turned, sends, sent_record}
 use Rattle.ptu_history.specs.{Shedding.{shed_grants, shed_record}, Step.{answer_records, delay_answer, verdict_records}}
 use Rattle.ptu_history.specs.Core.{core_moment, core_step, book_step_moment, core_history, history_after, table_step_moment}
-use Rattle.ptu_history.proofs.{Keys.{eq-eqb-table, same_lease-refl}, Lists.{by_push}, Standing.{last_pushed}}
+use Rattle.ptu_units.proofs.Keys.{eq-eqb-table, same_lease-refl}
+use Rattle.ptu_history.proofs.{Lists.{by_push}, Standing.{last_pushed}}
 use Rattle.ptu_history.proofs.AfterSteps.{answer_records-is, chain-looked, chain-sent, due_of, last_decision-looked}
 use Rattle.ptu_history.proofs.Histories.{history-event, history-none}
 use Rattle.ptu_history.proofs.LiveGrants.{Continued, continued}

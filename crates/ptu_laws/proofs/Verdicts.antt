@@ -2,7 +2,8 @@
 use Rattle.std.proofs.Common.{◌≡◌, ◌↔◌, ℕ, ◌+◌, ◌*◌, ◌<◌, ◌≤◌, ◌++◌, List, [], ◌∷◌, Bool, true, false, cond, leb, refl, sym, ap, subst, arith, Ok}
 use Rattle.std.proofs.lemmas.Bool.{leb-true, leb-false, false≢true}
 use Rattle.ptu_units.specs.{declared.kind.Kind.{Kind}, Log.{rate_of}}
-use Rattle.ptu_history.specs.{declared.client.Client.{Client}, History.{Record, capacity_in_force}}
+use Rattle.ptu_units.specs.declared.client.Client.{Client}
+use Rattle.ptu_history.specs.History.{Record, capacity_in_force}
 use Rattle.ptu_history.specs.Verdict.{Config, Ask, Verdict, granted_seconds, others, profile, verdict, GrantedFor, ShortOf}
 use Rattle.ptu_history.specs.Events.{Event, Request, Outcome, Decided}
 use Rattle.ptu_history.specs.Core.{core_moment, core_step, core_history, history_after, core_outcomes, outcomes_after}

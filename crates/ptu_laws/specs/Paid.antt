@@ -2,7 +2,7 @@
 use Rattle.std.specs.{Prelude.{◌≡◌, ℕ, ◌+◌, ◌<◌, ◌≤◌, Bool, ◌&&◌, List, ℤ, IsTrue}, List.{list_any}}
 use Rattle.std.specs.Ordering.{int_eq}
 use Rattle.ptu_units.specs.{declared.kind.Kind.{Kind}, Log.{IsLogOf, period_of}}
-use Rattle.ptu_history.specs.{declared.client.Client.{Client}, Client.{same_lease}}
+use Rattle.ptu_units.specs.{declared.client.Client.{Client}, Client.{same_lease}}
 use Rattle.ptu_history.specs.{History.{Record}, Held.{Payment, Term, is_in_term, terms}}
 
 -- the term is of the client and kind at the logarithm, and the moment is in it

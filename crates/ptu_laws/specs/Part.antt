@@ -1,6 +1,6 @@
 -- The part of a history that belongs to one table (the project's own choice).
 use Rattle.std.specs.{Prelude.{ℕ, Bool, false, ◌==◌, List}, List.{filter}}
-use Rattle.ptu_history.specs.Client.{table_of}
+use Rattle.ptu_units.specs.Client.{table_of}
 use Rattle.ptu_history.specs.History.{Record, Granted, Short, Ended, Capacity, Shed, Looked, Sent}
 use Rattle.ptu_history.specs.Moments.{is_of_table}
 

@@ -1,8 +1,7 @@
 -- What a grandmaster keeps to, by its history (the budget and the payments are the project's own choice).
 use Rattle.std.specs.Prelude.{◌≡◌, ℕ, ◌*◌, ◌<◌, ◌≤◌, List, ◌∷◌, ◌++◌, ℤ, Some, IsTrue}
 use Rattle.std.specs.List.{AllPairs, Contains}
-use Rattle.ptu_units.specs.declared.kind.Kind.{Kind}
-use Rattle.ptu_history.specs.declared.client.Client.{Client}
+use Rattle.ptu_units.specs.declared.{client.Client.{Client}, kind.Kind.{Kind}}
 use Rattle.ptu_history.specs.{Held.{budget, count, force, held, payment, payments}, History.{Record, Granted, Sent}}
 use Rattle.ptu_history.specs.Live.{last_decision, live}
 use Rattle.ptu_laws.specs.Paid.{IsBefore, IsPaid}

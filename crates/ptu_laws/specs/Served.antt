@@ -3,7 +3,7 @@
 use Rattle.std.specs.Prelude.{ℕ, zero, suc, ◌+◌, Bool, false, ◌&&◌, List, [], ◌∷◌, ◌++◌, Option, Some, ℤ, if◌then◌else◌}
 use Rattle.std.specs.{List.{list_any}, Ordering.{int_eq}}
 use Rattle.ptu_units.specs.declared.kind.Kind.{Kind}
-use Rattle.ptu_history.specs.{declared.client.Client.{Client}, Client.{same_lease}}
+use Rattle.ptu_units.specs.{declared.client.Client.{Client}, Client.{same_lease}}
 use Rattle.ptu_history.specs.{History.{Record, Granted, Sent}, Live.{last_decision}}
 use Rattle.ptu_history.specs.{Lawful.{last_period}, Held.{Term, is_by, is_in_term, terms}}
 use Rattle.ptu_laws.specs.Paid.{is_held_at}

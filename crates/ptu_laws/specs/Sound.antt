@@ -2,7 +2,7 @@
 -- choice).
 use Rattle.std.specs.Prelude.{◌≡◌, ℕ, ◌+◌, ◌≤◌, List, [], ◌∷◌, ◌++◌, IsTrue, ◌==◌, if◌then◌else◌}
 use Rattle.ptu_units.specs.{declared.kind.Kind.{Kind}, Log.{IsLogOf, rate_of}}
-use Rattle.ptu_history.specs.{declared.client.Client.{Client}, Client.{same_lease}}
+use Rattle.ptu_units.specs.{declared.client.Client.{Client}, Client.{same_lease}}
 use Rattle.ptu_history.specs.History.{Record, Granted, Short, Ended, Capacity, Shed, Looked, Sent, capacity_in_force}
 use Rattle.ptu_history.specs.{Moments.{book_moment, greatest_by}, Live.{live_grants}}
 use Rattle.ptu_history.specs.{Lawful.{lawful}, Verdict.{others, rate_sum}}

@@ -1,8 +1,8 @@
 -- How often a table takes turns, and how often a client gets messages (the project's own choice).
 use Rattle.std.specs.Prelude.{ℕ, ◌+◌, ◌<◌, ◌≤◌, Bool, false, ◌==◌, List, [], ◌∷◌, ◌++◌, map, if◌then◌else◌}
 use Rattle.std.specs.List.{Contains, filter}
-use Rattle.ptu_units.specs.declared.kind.Kind.{Kind}
-use Rattle.ptu_history.specs.{declared.client.Client.{Client}, History.{Record, moment_of}}
+use Rattle.ptu_units.specs.declared.{client.Client.{Client}, kind.Kind.{Kind}}
+use Rattle.ptu_history.specs.History.{Record, moment_of}
 use Rattle.ptu_history.specs.{Verdict.{Config}, Events.{Event, Turn}, Core.{core_moment, core_step}}
 use Rattle.ptu_laws.specs.Served.{is_sent_to}
 

@@ -5,13 +5,13 @@
 ghost use Rattle.std.specs.Prelude.{◌≡◌, ◌≢◌, ◌↔◌, ℕ, ◌+◌, ◌*◌, ◌<◌, ◌≤◌, false, List, [], ◌∷◌, ◌++◌, map, ℤ, IsTrue, Ok, Some};
 ghost use Rattle.std.specs.List.{All, AllPairs, Contains, count_by, list_any};
 ghost use Rattle.ptu_units.specs.{declared.kind.Kind.{Kind}, Log.{period_of, rate_of}};
-ghost use Rattle.ptu_units.specs.declared.kind.Kind.TheVariants.{DelayResp};
-ghost use Rattle.ptu_history.specs.declared.client.Client.{Client};
+ghost use Rattle.ptu_units.specs.{declared.kind.Kind.TheVariants.{DelayResp}, Client.{table_of}};
+ghost use Rattle.ptu_units.specs.declared.client.Client.{Client};
 ghost use Rattle.ptu_history.specs.History.{Record, Granted, Capacity, Sent, capacity_in_force, is_sent, moment_of};
 ghost use Rattle.ptu_history.specs.Live.{Grant, last_decision, live, live_grants};
 ghost use Rattle.ptu_history.specs.{Lawful.{earliest}, Runs.{chain}};
 ghost use Rattle.ptu_history.specs.Verdict.{Config, Ask, others, profile, rate_sum, verdict};
-ghost use Rattle.ptu_history.specs.{Client.{table_of}, Moments.{book_moment}};
+ghost use Rattle.ptu_history.specs.Moments.{book_moment};
 ghost use Rattle.ptu_history.specs.Events.{Event, Request, Turn, DelayReq, Outcome, Decided};
 ghost use Rattle.ptu_history.specs.{Shedding.{shed_record}, Step.{step}};
 ghost use Rattle.ptu_history.specs.Core.{core_moment, core_step, core_history, core_outcomes};

@@ -5,3 +5,4 @@ pub mod Reading
 pub mod Cut
 pub mod Draft
 pub mod Line
+pub mod Cause

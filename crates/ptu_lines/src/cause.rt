@@ -1,5 +1,10 @@
 //! Why a line is refused, as the reader of lines and the readers of words say it.
 
+ghost use Rattle.std.specs.Prelude.{◌≡◌, ◌≤◌, ◌+◌, ◌++◌, Some, length};
+ghost use Rattle.ptu_lines.specs.Cause.{line_cause_text, line_cause_word};
+
+use crate::line::LineText;
+use crate::part::LinePart;
 use std::error::Error;
 use std::fmt;
 
@@ -20,15 +25,45 @@ pub enum LineCause {
     Field(u8),
 }
 
-impl fmt::Display for LineCause {
-    fn fmt<W: fmt::Write>(&self, f: &mut fmt::Formatter<W>) -> fmt::Result {
+impl LineCause {
+    // The word for it, behind which the number of a field stands.
+    fn word(self) -> &'static str
+        ensures word { result.now ≡ line_cause_word self }
+        ensures short { length result.now ≤ 5 }
+    {
         match self {
-            LineCause::Size => f.write_str("size"),
-            LineCause::Long => f.write_str("long"),
-            LineCause::Text => f.write_str("text"),
-            LineCause::Word => f.write_str("word"),
-            LineCause::Count => f.write_str("count"),
-            LineCause::Field(number) => write!(f, "field {number}"),
+            LineCause::Size => "size",
+            LineCause::Long => "long",
+            LineCause::Text => "text",
+            LineCause::Word => "word",
+            LineCause::Count => "count",
+            LineCause::Field(_) => "field",
+        }
+    }
+}
+
+impl LinePart for LineCause {
+    ghost text = { line_cause_text };
+
+    ghost most = { λ _. 9 };
+
+    fn put(self, line: &mut LineText) {
+        if let LineCause::Field(number) = self {
+            line.put_octet(number);
+            line.put_str(" ");
+        }
+        line.put_str(self.word());
+    }
+}
+
+impl fmt::Display for LineCause {
+    ghost output = { λ cause. Some (line_cause_text cause) };
+
+    fn fmt<W: fmt::Write>(&self, f: &mut fmt::Formatter<W>) -> fmt::Result {
+        f.write_str(self.word())?;
+        match self {
+            LineCause::Field(number) => write!(f, " {number}"),
+            _ => Ok(()),
         }
     }
 }

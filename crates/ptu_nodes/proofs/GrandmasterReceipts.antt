@@ -6,7 +6,8 @@ use Rattle.ptu_outside.specs.{HandsOver.{HandsOver}, MemoryPort.{MemoryPort}}
 use Rattle.ptu_outside.specs.Telling.{IfTold, append_told}
 use Rattle.ptu_outside.proofs.HandsOver.{hands_whole}
 use Rattle.ptu_messages.specs.declared.header.Header.{Header}
-use Rattle.ptu_history.specs.{Client.{table_of}, Core.{history_after, table_step_moment}}
+use Rattle.ptu_units.specs.Client.{table_of}
+use Rattle.ptu_history.specs.Core.{history_after, table_step_moment}
 use Rattle.ptu_history.specs.{History.{Record}, Step.{delay_answer}}
 use Rattle.ptu_shard.specs.declared.answered.Answered.{Answered}
 use Rattle.ptu_shard.specs.declared.answered.Answered.TheVariants as answers

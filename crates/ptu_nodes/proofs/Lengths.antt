@@ -1,7 +1,7 @@
 -- How many octets the messages of a grandmaster have.
 use Rattle.std.proofs.Common.{◌≡◌, ◌∙◌, ℕ, ◌+◌, ◌*◌, ◌%◌, ◌≤◌, List, [], ◌∷◌, ◌++◌, length, map, refl, ap, arith, length-append}
 use Rattle.std.specs.List.{AllByRecursion, flat_map}
-use Rattle.ptu_units.specs.declared.kind.Kind.{Kind}
+use Rattle.ptu_units.specs.declared.{client.Client.{Client}, kind.Kind.{Kind}}
 use Rattle.ptu_units.specs.declared.kind.Kind.TheVariants as kinds
 use Rattle.ptu_units.specs.Kind.{code_of}
 use Rattle.ptu_outside.specs.Departure.{Departure}
@@ -12,7 +12,7 @@ use Rattle.ptu_messages.specs.declared.tlv.Tlv.TheVariants.{Request, Grant, Canc
 use Rattle.ptu_messages.specs.TlvsSent.{sent_tlv}
 use Rattle.ptu_messages.specs.declared.message.Message.{Message as Timed}
 use Rattle.ptu_messages.specs.Sent.{octets_sent, sent_body}
-use Rattle.ptu_history.specs.{declared.client.Client.{Client}, Events.{Message}}
+use Rattle.ptu_history.specs.Events.{Message}
 use Rattle.ptu_profile.specs.declared.grandmaster.GmConfig.{GmConfig}
 use Rattle.ptu_shard.specs.Messages.{body_of, departure_of, message_of_turn, response_of, message_of_response}
 use Rattle.ptu_gm_messages.specs.Replies.{cancels_to, identity_of, signaling_of, signaling_to}

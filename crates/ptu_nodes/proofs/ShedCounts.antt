@@ -6,12 +6,13 @@ use Rattle.std.proofs.lemmas.List.Elements.{Contains-append_left, Contains-appen
 use Rattle.std.proofs.lemmas.List.Sorted.{length_permutation}
 use Rattle.ptu_units.specs.declared.kind.Kind.{Kind}
 use Rattle.ptu_outside.specs.MemoryPort.{MemoryPort}
-use Rattle.ptu_history.specs.{declared.client.Client.{Client}, Client.{table_of}}
+use Rattle.ptu_units.specs.{declared.client.Client.{Client}, Client.{table_of}}
 use Rattle.ptu_history.specs.{Core.{book_step_moment}, History.{Record}}
 use Rattle.ptu_history.specs.Live.{Grant, IsLastDecision, is_of, live_grants, without}
 use Rattle.ptu_history.specs.{Moments.{book_moment}, Order.{in_order}}
 use Rattle.ptu_history.specs.Shedding.{shed_cmp, shed_grants, shed_order, shed_prefix}
-use Rattle.ptu_history.proofs.{Keys.{same_lease-refl}, Members.{Differ}}
+use Rattle.ptu_units.proofs.Keys.{same_lease-refl}
+use Rattle.ptu_history.proofs.Members.{Differ}
 use Rattle.ptu_history.proofs.Moments.{book_step_moment-bounds}
 use Rattle.ptu_history.proofs.Order.{IsPermutation-in_order, shed_prefix-rest}
 use Rattle.ptu_history.proofs.{Orders.{live_distinct, live_members}, Rates.{table_below}}

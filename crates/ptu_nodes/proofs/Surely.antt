@@ -7,7 +7,7 @@ use Rattle.ptu_outside.specs.{Departure.{Departure}, declared.port.Port.{Ghosts 
 use Rattle.ptu_outside.specs.{HandsOver.{HandsOver}, MemoryPort.{IsSure, MemoryPort}}
 use Rattle.ptu_outside.proofs.{HandsOver.{hands_surely}, Sure.{octets_within, sure_within}}
 use Rattle.ptu_messages.specs.declared.header.Header.{Header}
-use Rattle.ptu_history.specs.{declared.client.Client.{Client}, Client.{table_of}}
+use Rattle.ptu_units.specs.{declared.client.Client.{Client}, Client.{table_of}}
 use Rattle.ptu_history.specs.Events as step
 use Rattle.ptu_history.specs.Events.{Answer}
 use Rattle.ptu_history.proofs.Order.{IsPermutation-in_order}

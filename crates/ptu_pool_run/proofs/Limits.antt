@@ -15,7 +15,8 @@ use Rattle.ptu_pool_run.specs.declared.cause.{PoolCause.{PoolCause}, PoolCause.T
 use Rattle.ptu_pool_run.specs.declared.{command.PoolCommand.{PoolCommand}, verb.PoolVerb.{PoolVerb}}
 use Rattle.ptu_pool_run.specs.declared.command.PoolCommand.TheVariants as commands
 use Rattle.ptu_pool_run.specs.declared.verb.PoolVerb.TheVariants as verbs
-use Rattle.ptu_pool_run.specs.{Command.{pool_command_by, pool_command_of, pool_fields_in}, Verb.{count_of}}
+use Rattle.ptu_pool_run.specs.{Command.{pool_command_in, pool_command_of, pool_fields_in}, Verb.{is_pool_counted, pool_verb_name, pool_verbs}}
+use Rattle.ptu_script.specs.Verb.{verb_in}
 use Rattle.ptu_pool_run.specs.{Poured.{told_at, told_until}, Selling.{selling_refusal}}
 use Rattle.ptu_pool_run.specs.Reading.{At, Told, happened, told_outcome, pool_rules, sold_by, told_after, turned}
 
@@ -40,13 +41,12 @@ fields_lawful verbs.Pool line = ok_bound IsLawful (field 2 ip_of line) _ (λ net
 fields_lawful verbs.Rx line = ok_bound IsLawful (field 2 moment_of line) _ (λ t _. ok_bound IsLawful (field 3 ip_of line) _ (λ from _. ok_bound IsLawful (field 4 octets_of line) _ (λ octets _. tt)))
 fields_lawful verbs.Turn line = ok_bound IsLawful (field 2 moment_of line) _ (λ t _. ok_bound IsLawful (field 3 (from_to 1 16) line) _ (λ number _. ok_bound IsLawful (field 4 (from_to 0 3) line) _ (λ table _. tt)))
 
-by_verb : (verb : Option PoolVerb) (line : List ℕ) → IfOk (pool_command_by verb line) IsLawful
-by_verb None line = tt
-by_verb (Some verb) line = ok_either IsLawful (eqb (length (words_of line)) (count_of verb)) (pool_fields_in verb line) (Err Count) (λ _. fields_lawful verb line) (λ _. tt)
+in_lawful : (line : List ℕ) → IfOk (pool_command_in line) IsLawful
+in_lawful line = ok_bound IsLawful (verb_in pool_verbs pool_verb_name is_pool_counted line) _ (λ verb _. fields_lawful verb line)
 
 command_lawful : (line : List ℕ) → IfOk (pool_command_of line) (λ o. IfSome o IsLawful)
 unfolding pool_command_of
-command_lawful line = ok_either (λ o. IfSome o IsLawful) (is_comment line) (Ok None) _ (λ _. tt) (λ _. by _ (by_verb _ line))
+command_lawful line = ok_either (λ o. IfSome o IsLawful) (is_comment line) (Ok None) _ (λ _. tt) (λ _. by _ (in_lawful line))
   where
     by : (r : Result PoolCommand LineCause) → IfOk r IsLawful → IfOk (r >>= λ command. Ok (Some command)) (λ o. IfSome o IsLawful)
     by (Ok command) h = h

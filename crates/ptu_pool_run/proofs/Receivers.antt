@@ -3,10 +3,10 @@ use Rattle.std.proofs.Common.{◌≡◌, ◌∙◌, ◌⊎◌, inl, inr, ℕ, �
 use Rattle.std.specs.List.{Contains, cons_option, list_any}
 use Rattle.std.proofs.lemmas.Bool.{cases_Bool, cases_eq, eq-eqb, false≢true, false_from_ne_true, ne_eqb, or_parts, true_from_ne_false}
 use Rattle.std.proofs.lemmas.{List.{append-nil}, List.Elements.{Contains-append_right, filter-append}}
-use Rattle.ptu_units.specs.{declared.kind.Kind.{Kind}, Kind.{kind_of}}
+use Rattle.ptu_units.specs.{declared.kind.Kind.{Kind}, Client.{table_of}, Kind.{kind_of}}
 use Rattle.ptu_outside.specs.Departure.{Departure}
-use Rattle.ptu_history.specs.declared.client.Client.{Client}
-use Rattle.ptu_history.specs.{Client.{table_of}, Core.{core_moment, core_step, history_after}}
+use Rattle.ptu_units.specs.declared.client.Client.{Client}
+use Rattle.ptu_history.specs.Core.{core_moment, core_step, history_after}
 use Rattle.ptu_history.specs.Events as events
 use Rattle.ptu_history.specs.Events.{Answer, Event}
 use Rattle.ptu_history.specs.History.{Record, Ended, Granted, Looked, concerns, decides, is_decision, lease_records}

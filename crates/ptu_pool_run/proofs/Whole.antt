@@ -5,7 +5,7 @@ use Rattle.std.specs.Prelude.{option_map}
 use Rattle.std.proofs.lemmas.{Bool.{or_parts}, List.Folds.{list_any-append}}
 use Rattle.std.proofs.lemmas.{List.Sums.{sum_by-cons}, Nat.{mul-le}}
 use Rattle.ptu_units.specs.{Kind.{kind_of}, declared.kind.Kind.{Kind}}
-use Rattle.ptu_history.specs.declared.client.Client.{Client}
+use Rattle.ptu_units.specs.declared.client.Client.{Client}
 use Rattle.ptu_history.specs.Events as events
 use Rattle.ptu_history.specs.{Events.{Event}, Held.{count, force, held, is_by}}
 use Rattle.ptu_history.specs.History.{Record, capacity_in_force, is_change}

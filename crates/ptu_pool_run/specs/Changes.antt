@@ -1,7 +1,8 @@
 -- What a datagram and a turn do to the grandmaster of a pool, and to pools.
 use Rattle.std.specs.Prelude.{◌≡◌, ℕ, max, false, IsTrue, List, map}
 use Rattle.ptu_outside.specs.{declared.port.Port.{Ghosts as Ports}, HandsOver.{HandsOver}}
-use Rattle.ptu_history.specs.{Client.{table_of}, Core.{table_step_moment}, History.{Record}}
+use Rattle.ptu_units.specs.Client.{table_of}
+use Rattle.ptu_history.specs.{Core.{table_step_moment}, History.{Record}}
 use Rattle.ptu_history.specs.Turns.{due_grants, message_of}
 use Rattle.ptu_shard.specs.{declared.answered.Turned.{Turned}, Messages.{departure_of}}
 use Rattle.ptu_shard.specs.Turn.{due_messages}

@@ -1,15 +1,14 @@
 -- What a line of a script of pools commands, or why it is refused. The forms are the project's own choice.
-use Rattle.std.specs.Prelude.{◌≡◌, ℕ, ◌==◌, if◌then◌else◌, List, [], length, Option, Some, None, Result, Ok, Err, unwrap_or}
-use Rattle.ptu_lines.specs.Words.{words_of, word_of, ip_of, octets_of}
+use Rattle.std.specs.Prelude.{◌≡◌, ℕ, if◌then◌else◌, List, Option, Some, None, Result, Ok, Err}
+use Rattle.ptu_lines.specs.Words.{ip_of, octets_of}
 use Rattle.ptu_lines.specs.declared.cause.LineCause.{LineCause}
-use Rattle.ptu_lines.specs.declared.cause.LineCause.TheVariants.{Word, Count}
 use Rattle.ptu_script.specs.Fields.{◌>>=◌, capacity_of, field, from_to}
-use Rattle.ptu_script.specs.Command.{grandmaster_in, is_comment, moment_of}
+use Rattle.ptu_script.specs.{Command.{grandmaster_in, is_comment, moment_of}, Verb.{verb_in}}
 use Rattle.ptu_pool_run.specs.declared.command.PoolCommand.{PoolCommand}
 use Rattle.ptu_pool_run.specs.declared.command.PoolCommand.TheVariants as commands
 use Rattle.ptu_pool_run.specs.declared.verb.PoolVerb.{PoolVerb}
 use Rattle.ptu_pool_run.specs.declared.verb.PoolVerb.TheVariants.{Gm, Pool, Rx, Turn}
-use Rattle.ptu_pool_run.specs.Verb.{count_of, pool_verb_named}
+use Rattle.ptu_pool_run.specs.Verb.{is_pool_counted, pool_verb_name, pool_verbs}
 
 -- T IP
 abbrev pub pool_moment_in : List ℕ → Result (ℕ × ℕ) LineCause
@@ -39,17 +38,18 @@ pool_fields_in Turn line = do
   table ← field 4 (from_to 0 3) line
   Ok (commands.Turn at pool table)
 
--- the command of a line that begins with this word
-abbrev pub pool_command_by : Option PoolVerb → List ℕ → Result PoolCommand LineCause
-pool_command_by None line = Err Word
-pool_command_by (Some verb) line = if length (words_of line) == count_of verb then pool_fields_in verb line else Err Count
+-- the command of a line that is no comment
+abbrev pub pool_command_in : List ℕ → Result PoolCommand LineCause
+pool_command_in line = do
+  verb ← verb_in pool_verbs pool_verb_name is_pool_counted line
+  pool_fields_in verb line
 
 -- what a line commands, where it commands anything, or why it is refused
 unfoldable pub pool_command_of : List ℕ → Result (Option PoolCommand) LineCause
 pool_command_of line =
     if is_comment line then Ok None
     else do
-      command ← pool_command_by (pool_verb_named (unwrap_or (word_of line 1) [])) line
+      command ← pool_command_in line
       Ok (Some command)
 
 -- a line is refused for this cause

@@ -13,8 +13,7 @@ use Rattle.ptu_gm_messages.specs.Items.{heard_in}
 use Rattle.ptu_gm_messages.specs.Deciding.{answer_by, events_of_datagram, opened_with}
 use Rattle.ptu_gm_messages.specs.Replies.{reply_to}
 use Rattle.ptu_units.specs.declared.kind.{Kind.{Kind}, Kind.TheVariants.{DelayResp}}
-use Rattle.ptu_units.specs.Log.{period_of}
-use Rattle.ptu_history.specs.{declared.client.Client.{Client}, Client.{table_of}}
+use Rattle.ptu_units.specs.{declared.client.Client.{Client}, Client.{table_of}, Log.{period_of}}
 use Rattle.ptu_history.specs.{Live.{last_decision}, Runs.{chain}, Verdict.{Config}}
 use Rattle.ptu_laws.specs.Served.{held_time, held_time_at, periods_sent, sent_at}
 use Rattle.ptu_laws.specs.Turned.{IsInEach, sent_moments, turn_moments}

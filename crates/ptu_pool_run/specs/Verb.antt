@@ -1,5 +1,6 @@
 -- The words that a line may begin with, and how many words it has.
-use Rattle.std.specs.{Prelude.{ℕ, List, [], ◌∷◌, Option, find, codes}, Str.{bytes_eq}}
+use Rattle.std.specs.Prelude.{ℕ, ◌==◌, Bool, List, [], ◌∷◌, length, codes}
+use Rattle.ptu_lines.specs.Words.{words_of}
 use Rattle.ptu_pool_run.specs.declared.verb.PoolVerb.{PoolVerb}
 use Rattle.ptu_pool_run.specs.declared.verb.PoolVerb.TheVariants.{Gm, Pool, Rx, Turn}
 
@@ -13,13 +14,13 @@ pool_verb_name Pool = codes "pool"
 pool_verb_name Rx = codes "rx"
 pool_verb_name Turn = codes "turn"
 
--- the command that the word names, if it names one
-abbrev pub pool_verb_named : List ℕ → Option PoolVerb
-pool_verb_named word = find (λ verb. bytes_eq word (pool_verb_name verb)) pool_verbs
-
 -- how many words its lines have, the first one counted
 abbrev pub count_of : PoolVerb → ℕ
 count_of Gm = 8
 count_of Pool = 4
 count_of Rx = 4
 count_of Turn = 4
+
+-- the line has as many words as those that begin with this word
+abbrev pub is_pool_counted : PoolVerb → List ℕ → Bool
+is_pool_counted verb line = length (words_of line) == count_of verb

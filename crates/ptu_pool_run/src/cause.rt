@@ -10,18 +10,8 @@ use std::fmt;
 /// Why a line of a script of pools is refused (the project's own choice).
 #[derive(Clone, Copy, Debug, PartialEq, Eq)]
 pub enum PoolCause {
-    /// Octet 67108865 of the script is among the first 8193 octets of the line, its 0A counted.
-    Size,
-    /// The line has more than 8192 octets.
-    Long,
-    /// An octet of the line is outside 20 to 7E (hexadecimal).
-    Text,
-    /// The first word is that of no command.
-    Word,
-    /// The line has another number of words than its command.
-    Count,
-    /// The word with this number, from 1, is the first that is outside its form or range.
-    Field(u8),
+    /// The line cannot be read as a command, for this cause.
+    Line(LineCause),
     /// The grandmaster is not set up before all, or is set up twice; a pool comes after an event,
     /// or an event before any pool.
     Order,
@@ -44,15 +34,7 @@ impl LinePart for PoolCause {
 
     fn put(self, line: &mut LineText) {
         match self {
-            PoolCause::Size => line.put_str("size"),
-            PoolCause::Long => line.put_str("long"),
-            PoolCause::Text => line.put_str("text"),
-            PoolCause::Word => line.put_str("word"),
-            PoolCause::Count => line.put_str("count"),
-            PoolCause::Field(number) => {
-                line.put_octet(number);
-                line.put_str("field ");
-            }
+            PoolCause::Line(cause) => cause.put(line),
             PoolCause::Order => line.put_str("order"),
             PoolCause::Net => line.put_str("net"),
             PoolCause::Full => line.put_str("full"),
@@ -68,12 +50,7 @@ impl fmt::Display for PoolCause {
 
     fn fmt<W: fmt::Write>(&self, f: &mut fmt::Formatter<W>) -> fmt::Result {
         match self {
-            PoolCause::Size => f.write_str("size"),
-            PoolCause::Long => f.write_str("long"),
-            PoolCause::Text => f.write_str("text"),
-            PoolCause::Word => f.write_str("word"),
-            PoolCause::Count => f.write_str("count"),
-            PoolCause::Field(number) => write!(f, "field {number}"),
+            PoolCause::Line(cause) => cause.fmt(f),
             PoolCause::Order => f.write_str("order"),
             PoolCause::Net => f.write_str("net"),
             PoolCause::Full => f.write_str("full"),
@@ -86,18 +63,10 @@ impl fmt::Display for PoolCause {
 
 impl Error for PoolCause {}
 
-/// Causes of the readers of lines and of words have the same names here.
 impl From<LineCause> for PoolCause {
     ghost from_gives = { λ line cause. cause ≡ pool_cause_of_line line };
 
     fn from(cause: LineCause) -> PoolCause {
-        match cause {
-            LineCause::Size => PoolCause::Size,
-            LineCause::Long => PoolCause::Long,
-            LineCause::Text => PoolCause::Text,
-            LineCause::Word => PoolCause::Word,
-            LineCause::Count => PoolCause::Count,
-            LineCause::Field(number) => PoolCause::Field(number),
-        }
+        PoolCause::Line(cause)
     }
 }

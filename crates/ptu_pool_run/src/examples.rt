@@ -20,15 +20,7 @@ pub fn good_lines()
     ensures empty { pool_command_of [] ≡ Ok None }
     ensures comment { pool_command_of (codes "#pool") ≡ Ok None }
     ensures gm { pool_command_of (codes "gm 10.0.0.1 0a00000000000001 1 4 84 16 300")
-        ≡ Ok (Some (commands.Grandmaster (record {
-          ip = 0x0A000001;
-          clock = 0x0A00000000000001;
-          port = 1;
-          domain = 4;
-          class = 84;
-          capacity = 16;
-          max_duration = 300;
-        }))) }
+        ≡ Ok (Some (commands.Grandmaster setup_of_customers)) }
     ensures pool { pool_command_of (codes "pool 10.0.1.0 24 8")
         ≡ Ok (Some (commands.Sell (record { net = 0x0A000100; bits = 24; capacity = 8 }))) }
     ensures rx { pool_command_of (codes "rx 5 10.0.1.17 0cFf")
@@ -63,7 +55,7 @@ pub fn lines_of_output()
     ensures sent { pool_line_text (lines.Sent 4 1 channels.General 0x0A000111 (0 ∷ 255 ∷ []))
         ≡ codes "4 pool 1 send general 10.0.1.17 00ff\n" }
     ensures stranger { pool_line_text (lines.Stranger 7) ≡ codes "7 stranger\n" }
-    ensures bad { pool_line_text (lines.Bad 2 (refused.Field 5)) ≡ codes "2 bad field 5\n" }
+    ensures bad { pool_line_text (lines.Bad 2 (refused.Line (causes.Field 5))) ≡ codes "2 bad field 5\n" }
     ensures over { pool_line_text (lines.Bad 3 refused.Over) ≡ codes "3 bad over\n" }
     ensures end { pool_line_text (lines.End 7) ≡ codes "end 7\n" }
 {}

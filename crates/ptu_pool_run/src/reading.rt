@@ -1,9 +1,8 @@
 //! The lines of a script of pools, read.
 
-ghost use Rattle.std.specs.Prelude.{◌≡◌, IfOk, IfSome, unwrap_or, []};
-ghost use Rattle.ptu_lines.specs.Words.{word_of};
-ghost use Rattle.ptu_pool_run.specs.Command.{pool_command_by, pool_command_of, pool_fields_in, pool_moment_in};
-ghost use Rattle.ptu_pool_run.specs.{Limits.{IsPoolCommandInRange}, Verb.{pool_verb_named}};
+ghost use Rattle.std.specs.Prelude.{◌≡◌, IfOk, IfSome};
+ghost use Rattle.ptu_pool_run.specs.Command.{pool_command_in, pool_command_of, pool_fields_in, pool_moment_in};
+ghost use Rattle.ptu_pool_run.specs.Limits.{IsPoolCommandInRange};
 ghost use Rattle.ptu_pool_run.specs.declared.verb.PoolVerb.TheVariants as verbs;
 
 use crate::Pool;
@@ -15,6 +14,7 @@ use ptu_script::fields::{
     bits_field, capacity_field, ip_field, moment_field, number_field, octets_field,
 };
 use ptu_script::setups::grandmaster;
+use ptu_script::verb_of;
 use ptu_units::Moment;
 use ptu_units::sizes::LONGEST_DATAGRAM;
 
@@ -104,16 +104,11 @@ fn command<'a>(
     line: &[u8],
     room: &'a mut [u8; LONGEST_DATAGRAM],
 ) -> Result<PoolCommand<'a>, LineCause>
-    ensures value { result
-        ≡ pool_command_by (pool_verb_named (unwrap_or (word_of line.now 1) [])) line.now }
+    ensures value { result ≡ pool_command_in line.now }
     ensures within { IfOk result IsPoolCommandInRange }
 {
     let words = WordList::new(line);
-    match PoolVerb::of(words.word(1).unwrap_or(&[])) {
-        None => Err(LineCause::Word),
-        Some(verb) if words.count() == verb.count() => fields(verb, &words, room),
-        Some(_) => Err(LineCause::Count),
-    }
+    fields(verb_of(&words)?, &words, room)
 }
 
 /// What a line of a script of pools commands, or `None` for a line that is empty or begins with

@@ -1,7 +1,10 @@
 //! The first words of the lines in a script of pools.
 
 ghost use Rattle.std.specs.Prelude.{◌≡◌};
-ghost use Rattle.ptu_pool_run.specs.Verb.{count_of, pool_verb_name, pool_verb_named};
+ghost use Rattle.ptu_pool_run.specs.Verb.{is_pool_counted, pool_verb_name, pool_verbs};
+
+use ptu_lines::WordList;
+use ptu_script::LineVerb;
 
 /// The first word of a line that is a command.
 #[derive(Clone, Copy)]
@@ -14,11 +17,18 @@ pub enum PoolVerb {
 
 const VERBS: [PoolVerb; 4] = [PoolVerb::Gm, PoolVerb::Pool, PoolVerb::Rx, PoolVerb::Turn];
 
-impl PoolVerb {
-    /// The word as it stands in a script of pools.
-    pub fn name(self) -> &'static str
-        ensures { result.now ≡ pool_verb_name self }
-    {
+impl LineVerb for PoolVerb {
+    ghost every = { pool_verbs };
+
+    ghost word = { pool_verb_name };
+
+    ghost counted = { is_pool_counted };
+
+    fn all() -> &'static [PoolVerb] {
+        &VERBS
+    }
+
+    fn name(self) -> &'static str {
         match self {
             PoolVerb::Gm => "gm",
             PoolVerb::Pool => "pool",
@@ -27,23 +37,10 @@ impl PoolVerb {
         }
     }
 
-    /// How many words its lines have, the first one counted.
-    pub fn count(self) -> usize
-        ensures { result ≡ count_of self }
-    {
+    fn is_counted(self, line: &WordList) -> bool {
         match self {
-            PoolVerb::Gm => 8,
-            PoolVerb::Pool | PoolVerb::Rx | PoolVerb::Turn => 4,
+            PoolVerb::Gm => line.count() == 8,
+            PoolVerb::Pool | PoolVerb::Rx | PoolVerb::Turn => line.count() == 4,
         }
-    }
-
-    /// The command that this word names, or `None` where it names none.
-    pub fn of(word: &[u8]) -> Option<PoolVerb>
-        ensures { result ≡ pool_verb_named word.now }
-    {
-        VERBS
-            .iter()
-            .copied()
-            .find(|verb| word == verb.name().as_bytes())
     }
 }

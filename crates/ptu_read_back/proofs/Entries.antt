@@ -1,5 +1,7 @@
 -- What stands behind the number of a line, read by its form.
-use Rattle.std.proofs.Common.{◌≡◌, ℕ, Bool, true, false, ◌||◌, if◌then◌else◌, List, [], ◌∷◌, codes, Option, Some, None, ℤ, refl}
+use Rattle.std.proofs.Common.{◌≡◌, ◌∙◌, ℕ, ◌<◌, Bool, true, false, ◌||◌, if◌then◌else◌, List, [], ◌∷◌, length, get_or, codes, Option, Some, None, ℤ, lit<, refl, sym}
+use Rattle.std.specs.List.{list_any}
+use Rattle.std.proofs.lemmas.List.Folds.{list_any_at}
 use Rattle.ptu_units.specs.declared.kind.Kind.{Kind}
 use Rattle.ptu_lines.specs.Words.{ip_of, words_of}
 use Rattle.ptu_audit_lines.specs.declared.entry.Entry.{Entry}
@@ -110,6 +112,32 @@ pub record IsOfNode (tag : List ℕ) : Type 0 where
   pub capacity : is_in_place (codes "capacity") tag ≡ false
   pub shed : is_in_place (codes "shed") tag ≡ false
 
+-- the words that what is told of a grandmaster begins with
+abbrev node_words : List (List ℕ)
+node_words = codes "send" ∷ codes "granted" ∷ codes "short" ∷ codes "outside" ∷ codes "cancelled" ∷ codes "nothing" ∷ codes "capacity" ∷ codes "shed" ∷ []
+
+-- the word is one of them
+abbrev pub is_of_node : List ℕ → Bool
+is_of_node tag = list_any (λ word. is_in_place word tag) node_words
+
+none_there : {A : Type 0} (p : A → Bool) (xs : List A) (i : ℕ) (d : A) → i < length xs → list_any p xs ≡ false → p (get_or xs i d) ≡ false
+none_there p xs i d h e = go (p (get_or xs i d)) refl
+  where
+    go : (b : Bool) → p (get_or xs i d) ≡ b → b ≡ false
+    go false is = refl
+    go true is = absurd (let never : true ≡ false = sym (list_any_at p xs i d h is) ∙ e in cc)
+
+-- a word that is none of them
+pub of_other : (tag : List ℕ) → is_of_node tag ≡ false → IsOfNode tag
+of_other tag e =
+    let none : (i : ℕ) → i < 8 → is_in_place (get_or node_words i []) tag ≡ false = λ i h. none_there (λ word. is_in_place word tag) node_words i [] h e in
+    record {
+      send = none 0 (lit< tt);
+      decision = record { granted = none 1 (lit< tt); short = none 2 (lit< tt); outside = none 3 (lit< tt); cancelled = none 4 (lit< tt); nothing = none 5 (lit< tt) };
+      capacity = none 6 (lit< tt);
+      shed = none 7 (lit< tt);
+    }
+
 by_other : (line : List ℕ) (n : ℕ) (tag : List ℕ) (rest : List (List ℕ)) (o : Option Entry) → IsNumbered line n tag rest → IsOfNode tag → other_in line ≡ o
     → entry_of line ≡ first_of (o ∷ [])
 unfolding entry_of plain_entry_in
@@ -143,9 +171,9 @@ datagram_entry line n tag rest h differs e = by_other line n tag rest (Some entr
 
 -- ---- the refusal of a script's line has no form
 
-bad_no : IsOfNode (codes "bad")
+bad_is_other : is_of_node (codes "bad") ≡ false
 unfolding is_in_place
-bad_no = record { send = refl; decision = record { granted = refl; short = refl; outside = refl; cancelled = refl; nothing = refl }; capacity = refl; shed = refl }
+bad_is_other = refl
 
 -- none of these is the form of the line
 abbrev AreUnfit : List (List ℕ) → List ℕ → Type 0
@@ -275,7 +303,7 @@ bad_no_other line n rest h = rw ((bad_no_slave line n rest h), (bad_no_datagram 
 bad_no_number : (line : List ℕ) (n : ℕ) (rest : List (List ℕ)) → IsNumbered line n (codes "bad") rest
     → numbered_in line ≡ None
 unfolding numbered_in field
-bad_no_number line n rest h = rw (h.words, h.read, by_other line n (codes "bad") rest None h bad_no (bad_no_other line n rest h)) refl
+bad_no_number line n rest h = rw (h.words, h.read, by_other line n (codes "bad") rest None h (of_other (codes "bad") bad_is_other) (bad_no_other line n rest h)) refl
 
 bad_end_fits : (line : List ℕ) (n : ℕ) (rest : List (List ℕ)) → IsNumbered line n (codes "bad") rest
     → fits (codes "end NUM NUM") line ≡ false

@@ -4,7 +4,7 @@ use Rattle.std.specs.{Fmt.{signed_decimal}, Prelude.{option_map}, List.{AllByRec
 use Rattle.ptu_units.specs.{declared.kind.Kind.{Kind}, Log.{IsLogOf}}
 use Rattle.hex.specs.Hex.{encode_lower}
 use Rattle.ptu_messages.specs.declared.header.PortIdentity.{PortIdentity}
-use Rattle.ptu_history.specs.declared.client.Client.{Client}
+use Rattle.ptu_units.specs.declared.client.Client.{Client}
 use Rattle.ptu_lines.specs.{Script.{text_of}, Words.{words_of}}
 use Rattle.ptu_texts.specs.Texts.{address_text, identity_text, kind_text}
 use Rattle.ptu_texts.proofs.Read.{address_read}

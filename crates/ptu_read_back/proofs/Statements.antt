@@ -3,9 +3,8 @@ use Rattle.std.proofs.Common.{◌≡◌, ℕ, suc, ◌≤◌, nat_le, true, List
 use Rattle.std.specs.{Fmt.{signed_decimal}, List.{list_all}}
 use Rattle.std.proofs.lemmas.List.{length-append}
 use Rattle.hex.specs.Hex.{encode_lower}
-use Rattle.ptu_units.specs.declared.kind.Kind.{Kind}
+use Rattle.ptu_units.specs.declared.{client.Client.{Client}, kind.Kind.{Kind}}
 use Rattle.ptu_units.specs.{Kind.{kind_of}, Log.{IsLogOf}}
-use Rattle.ptu_history.specs.declared.client.Client.{Client}
 use Rattle.ptu_messages.specs.declared.header_fault.HeaderFault.{HeaderFault}
 use Rattle.ptu_messages.specs.declared.header_fault.HeaderFault.TheVariants as headers
 use Rattle.ptu_messages.specs.declared.tlvs_fault.TlvFault.{TlvFault}
@@ -13,6 +12,7 @@ use Rattle.ptu_messages.specs.declared.tlvs_fault.TlvFault.TheVariants as tlvs
 use Rattle.ptu_messages.specs.declared.fault.MessageFault.{MessageFault}
 use Rattle.ptu_messages.specs.declared.fault.MessageFault.TheVariants as messages
 use Rattle.ptu_script.specs.declared.cause.Cause.{Cause}
+use Rattle.ptu_lines.specs.declared.cause.LineCause.TheVariants as line_causes
 use Rattle.ptu_script.specs.declared.cause.Cause.TheVariants as causes
 use Rattle.ptu_texts.specs.Texts.{address_text, identity_text, kind_text}
 use Rattle.ptu_report_lines.specs.declared.decision.Decision.{Decision}
@@ -97,12 +97,12 @@ reason_words (reasons.Domain domain) = codes "domain" ∷ decimal domain ∷ []
 reason_words reasons.Target = codes "target" ∷ []
 
 abbrev pub cause_words : Cause → List (List ℕ)
-cause_words causes.Size = codes "size" ∷ []
-cause_words causes.Long = codes "long" ∷ []
-cause_words causes.Text = codes "text" ∷ []
-cause_words causes.Word = codes "word" ∷ []
-cause_words causes.Count = codes "count" ∷ []
-cause_words (causes.Field number) = codes "field" ∷ decimal number ∷ []
+cause_words (causes.Line line_causes.Size) = codes "size" ∷ []
+cause_words (causes.Line line_causes.Long) = codes "long" ∷ []
+cause_words (causes.Line line_causes.Text) = codes "text" ∷ []
+cause_words (causes.Line line_causes.Word) = codes "word" ∷ []
+cause_words (causes.Line line_causes.Count) = codes "count" ∷ []
+cause_words (causes.Line (line_causes.Field number)) = codes "field" ∷ decimal number ∷ []
 cause_words causes.Order = codes "order" ∷ []
 cause_words causes.Node = codes "node" ∷ []
 cause_words causes.Full = codes "full" ∷ []
@@ -185,12 +185,12 @@ spells_reason number (reasons.Domain domain) = refl
 spells_reason number reasons.Target = refl
 
 spells_cause : (number : ℕ) (cause : Cause) → Spells number (statements.Bad cause)
-spells_cause number causes.Size = refl
-spells_cause number causes.Long = refl
-spells_cause number causes.Text = refl
-spells_cause number causes.Word = refl
-spells_cause number causes.Count = refl
-spells_cause number (causes.Field k) = refl
+spells_cause number (causes.Line line_causes.Size) = refl
+spells_cause number (causes.Line line_causes.Long) = refl
+spells_cause number (causes.Line line_causes.Text) = refl
+spells_cause number (causes.Line line_causes.Word) = refl
+spells_cause number (causes.Line line_causes.Count) = refl
+spells_cause number (causes.Line (line_causes.Field k)) = refl
 spells_cause number causes.Order = refl
 spells_cause number causes.Node = refl
 spells_cause number causes.Full = refl
@@ -324,12 +324,12 @@ words_of_reason (reasons.Domain domain) h = (literal (codes "domain") refl refl,
 words_of_reason reasons.Target h = (literal (codes "target") refl refl, tt)
 
 words_of_cause : (cause : Cause) → IsCause cause → AreWords 40 11 (cause_words cause)
-words_of_cause causes.Size h = (literal (codes "size") refl refl, tt)
-words_of_cause causes.Long h = (literal (codes "long") refl refl, tt)
-words_of_cause causes.Text h = (literal (codes "text") refl refl, tt)
-words_of_cause causes.Word h = (literal (codes "word") refl refl, tt)
-words_of_cause causes.Count h = (literal (codes "count") refl refl, tt)
-words_of_cause (causes.Field number) h = (literal (codes "field") refl refl, (number_40 number h, tt))
+words_of_cause (causes.Line line_causes.Size) h = (literal (codes "size") refl refl, tt)
+words_of_cause (causes.Line line_causes.Long) h = (literal (codes "long") refl refl, tt)
+words_of_cause (causes.Line line_causes.Text) h = (literal (codes "text") refl refl, tt)
+words_of_cause (causes.Line line_causes.Word) h = (literal (codes "word") refl refl, tt)
+words_of_cause (causes.Line line_causes.Count) h = (literal (codes "count") refl refl, tt)
+words_of_cause (causes.Line (line_causes.Field number)) h = (literal (codes "field") refl refl, (number_40 number h, tt))
 words_of_cause causes.Order h = (literal (codes "order") refl refl, tt)
 words_of_cause causes.Node h = (literal (codes "node") refl refl, tt)
 words_of_cause causes.Full h = (literal (codes "full") refl refl, tt)

@@ -2,7 +2,7 @@
 use Rattle.std.proofs.Common.{◌≡◌, ◌∙◌, ℕ, zero, suc, ◌*◌, ◌-◌, ◌/◌, ◌%◌, ◌^◌, ◌<◌, ◌≤◌, nat_le, Bool, ◌&&◌, not, true, false, inl, inr, List, [], ◌∷◌, ◌++◌, length, take, drop, slice_index, codes, Some, None, ℤ, pos, negsuc, lit<, refl, sym, ap, decimal, arith}
 use Rattle.std.specs.{Fmt.{signed_decimal}, Prelude.{int_le, unsigned_abs}}
 use Rattle.std.specs.Option.{option_and_then}
-use Rattle.std.proofs.lemmas.Bool.{cases_lt}
+use Rattle.std.proofs.lemmas.List.Folds.{list_all_at}
 use Rattle.std.proofs.lemmas.{Int.{ints}, Fmt.{length-decimal-le}}
 use Rattle.std.proofs.lemmas.List.{length-append, take_at, drop_at, get_or-append_right, append_assoc}
 use Rattle.hex.specs.Hex.{IsBytes, encode_lower, encode_with, lower_digits}
@@ -122,28 +122,20 @@ address_word ip h =
 abbrev is_low : ℕ → Bool
 is_low octet = not (nat_le 65 octet && nat_le octet 90)
 
--- the digit at each of the first places is none in upper case
-abbrev AreLow : ℕ → Type 0
-AreLow zero = Unit {0}
-AreLow (suc n) = (is_low (slice_index lower_digits n) ≡ true) × AreLow n
-
-low_at : (n k : ℕ) → AreLow n → k < n → is_low (slice_index lower_digits k) ≡ true
-low_at zero k h lt = absurd (omega arith)
-low_at (suc n) k h lt =
-    elim (cases_lt k n) [
-      | inl below ↦ low_at n k h.1 below
-      | inr top ↦ let e : k ≡ n = omega arith in rw e h.0
-    ]
-
-all_low : AreLow 16
-all_low = (refl, (refl, (refl, (refl, (refl, (refl, (refl, (refl, (refl, (refl, (refl, (refl, (refl, (refl, (refl, (refl, tt))))))))))))))))
+-- no digit is one in upper case
+low_at : (k : ℕ) → k < 16 → is_low (slice_index lower_digits k) ≡ true
+low_at k h = go (is_low (slice_index lower_digits k)) refl
+  where
+    go : (b : Bool) → is_low (slice_index lower_digits k) ≡ b → b ≡ true
+    go true is = refl
+    go false is = absurd (let never : true ≡ false = list_all_at is_low lower_digits k 0 h is in cc)
 
 pub digits_are_lower : (xs : List ℕ) → IsBytes xs → is_lower (encode_lower xs) ≡ true
 unfolding encode_with
 digits_are_lower [] h = refl
 digits_are_lower (x ∷ xs) h =
     let fits : x < 256 = h 0 in
-    rw (low_at 16 (x / 16) all_low (omega arith), low_at 16 (x % 16) all_low (omega arith)) (digits_are_lower xs (λ k. h (suc k)))
+    rw (low_at (x / 16) (omega arith), low_at (x % 16) (omega arith)) (digits_are_lower xs (λ k. h (suc k)))
 
 pub octets_word : (xs : List ℕ) → IsBytes xs → length xs ≤ 2048 → IsWord 4096 (encode_lower xs)
 octets_word xs h few = (glyphs_are_ink (encode_lower xs) (octets_glyphs xs h), omega (arith, length-encode_with lower_digits xs, few))

@@ -1,15 +1,15 @@
 -- The ranges of what a line of a report is written of: those of its types, and those that its words can say.
 use Rattle.std.specs.Prelude.{ℕ, ◌<◌, ◌≤◌, ◌^◌, ℤ, pos, negsuc, ◌≤ℤ◌, length, Option, Some, None}
 use Rattle.hex.specs.Hex.{IsBytes}
-use Rattle.ptu_units.specs.{Log.{IsLogOf}}
+use Rattle.ptu_units.specs.{declared.client.Client.{Client}, Log.{IsLogOf}}
 use Rattle.ptu_messages.specs.declared.header_fault.HeaderFault.{HeaderFault}
 use Rattle.ptu_messages.specs.declared.header_fault.HeaderFault.TheVariants as headers
 use Rattle.ptu_messages.specs.declared.tlvs_fault.TlvFault.{TlvFault}
 use Rattle.ptu_messages.specs.declared.tlvs_fault.TlvFault.TheVariants as tlvs
 use Rattle.ptu_messages.specs.declared.fault.MessageFault.{MessageFault}
 use Rattle.ptu_messages.specs.declared.fault.MessageFault.TheVariants as messages
-use Rattle.ptu_history.specs.declared.client.Client.{Client}
 use Rattle.ptu_script.specs.declared.cause.Cause.{Cause}
+use Rattle.ptu_lines.specs.declared.cause.LineCause.TheVariants as line_causes
 use Rattle.ptu_script.specs.declared.cause.Cause.TheVariants as causes
 use Rattle.ptu_report_lines.specs.declared.decision.Decision.{Decision}
 use Rattle.ptu_report_lines.specs.declared.decision.Decision.TheVariants as decisions
@@ -113,7 +113,7 @@ IsMaster None = Unit {0}
 IsMaster (Some master) = IsAddress master
 
 abbrev pub IsCause : Cause → Type 0
-IsCause (causes.Field number) = IsNumber number
+IsCause (causes.Line (line_causes.Field number)) = IsNumber number
 IsCause _ = Unit {0}
 
 abbrev pub IsStatement : Statement → Type 0

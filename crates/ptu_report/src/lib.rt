@@ -13,7 +13,7 @@ mod texts;
 pub use driver::report;
 pub use ending::Ending;
 pub use fault::RunFault;
-pub use reporter::Reporter;
+pub use reporter::{Reporter, Stepped};
 pub use running::run;
 pub use stop::Stop;
 pub use texts::Texts;

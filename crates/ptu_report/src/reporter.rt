@@ -9,6 +9,12 @@ use ptu_lines::LineCause;
 use ptu_units::OutOfMemory;
 use std::alloc::Global;
 
+/// What a line comes to, or the end of the lines: `None`, or why it is refused.
+///
+/// # Errors
+/// `OutOfMemory`.
+pub type Stepped<C> = Result<Option<C>, OutOfMemory>;
+
 /// A program over lines: each line is refused, or it gives texts of output and changes the state. A
 /// value is a state.
 pub trait Reporter {
@@ -32,7 +38,7 @@ pub trait Reporter {
         number: u64,
         line: &[u8],
         texts: &mut Texts,
-    ) -> Result<Option<Self::Cause>, OutOfMemory>
+    ) -> Stepped<Self::Cause>
         requires means { (meaning : Self.Meaning) × stands_for self.old meaning }
         requires first { 1 ≤ number }
         requires last { number ≤ 67108864 }
@@ -44,12 +50,7 @@ pub trait Reporter {
             refused) };
 
     /// Ends the output, after so many lines.
-    fn close(
-        &mut self,
-        alloc: Global,
-        lines: u64,
-        texts: &mut Texts,
-    ) -> Result<Option<Self::Cause>, OutOfMemory>
+    fn close(&mut self, alloc: Global, lines: u64, texts: &mut Texts) -> Stepped<Self::Cause>
         requires means { (meaning : Self.Meaning) × stands_for self.old meaning }
         requires last { lines ≤ 67108864 }
         requires empty { texts.old ≡ [] }

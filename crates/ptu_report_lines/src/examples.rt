@@ -4,6 +4,7 @@ ghost use Rattle.ptu_units.specs.declared.kind.Kind.TheVariants as kinds;
 ghost use Rattle.ptu_messages.specs.declared.header_fault.HeaderFault.TheVariants as headers;
 ghost use Rattle.ptu_messages.specs.declared.fault.MessageFault.TheVariants as faults;
 ghost use Rattle.ptu_outside.specs.declared.channel.Channel.TheVariants as channels;
+ghost use Rattle.ptu_lines.specs.declared.cause.LineCause.TheVariants as line_causes;
 ghost use Rattle.ptu_script.specs.declared.cause.Cause.TheVariants as causes;
 ghost use Rattle.ptu_report_lines.specs.Report.{line_text};
 ghost use Rattle.ptu_report_lines.specs.declared.decision.Decision.TheVariants as decisions;
@@ -98,7 +99,7 @@ pub fn lines_of_a_slave()
         ≡ codes "9 selected 10.0.1.17 10.0.0.1\n" }
     ensures selected_none { line_text (lines.At 4 (statements.Selected 0x0A000111 None))
         ≡ codes "4 selected 10.0.1.17 none\n" }
-    ensures bad { line_text (lines.At 2 (statements.Bad (causes.Field 5)))
+    ensures bad { line_text (lines.At 2 (statements.Bad (causes.Line (line_causes.Field 5))))
         ≡ codes "2 bad field 5\n" }
     ensures end { line_text (lines.End 9 4) ≡ codes "end 9 4\n" }
 {}

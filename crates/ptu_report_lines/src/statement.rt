@@ -12,11 +12,10 @@ use crate::reason::Reason;
 use crate::sent::{Sent, SentLine};
 use crate::signal::Received;
 use crate::words::{Word, put_words};
-use ptu_history::Client;
 use ptu_lines::{Draft, LinePart, LineText, Text};
 use ptu_messages::PortIdentity;
 use ptu_script::Cause;
-use ptu_units::{Kind, Log, Moment, OutOfMemory};
+use ptu_units::{Client, Kind, Log, Moment, OutOfMemory};
 
 /// What happened at a line of a script.
 #[derive(Drop)]

@@ -1,10 +1,8 @@
 -- What a line of a script commands, or why it is refused. The forms are the project's own choice.
-use Rattle.std.specs.Prelude.{ℕ, ◌-◌, ◌^◌, Bool, true, ◌==◌, if◌then◌else◌, List, [], ◌∷◌, length, Option, Some, None, Result, Ok, Err, unwrap_or}
-use Rattle.std.specs.List.{list_any}
+use Rattle.std.specs.Prelude.{ℕ, ◌-◌, ◌^◌, Bool, true, ◌==◌, if◌then◌else◌, List, [], ◌∷◌, length, Option, Some, None, Result, Ok}
 use Rattle.ptu_units.specs.declared.kind.Kind.TheVariants as kinds
-use Rattle.ptu_lines.specs.Words.{words_of, word_of, ip_of, clock_of, octets_of}
+use Rattle.ptu_lines.specs.Words.{words_of, ip_of, clock_of, octets_of}
 use Rattle.ptu_lines.specs.declared.cause.LineCause.{LineCause}
-use Rattle.ptu_lines.specs.declared.cause.LineCause.TheVariants.{Word, Count}
 use Rattle.ptu_script.specs.{Cause.{named}, declared.cause.Cause.{Cause}}
 use Rattle.ptu_script.specs.declared.command.GrandmasterSetup.{GrandmasterSetup}
 use Rattle.ptu_script.specs.declared.command.{SlaveSetup.{SlaveSetup}, Command.{Command}}
@@ -12,7 +10,7 @@ use Rattle.ptu_script.specs.declared.act.Act.TheVariants as acts
 use Rattle.ptu_script.specs.declared.command.Command.TheVariants as commands
 use Rattle.ptu_script.specs.declared.verb.Verb.{Verb}
 use Rattle.ptu_script.specs.declared.verb.Verb.TheVariants.{Gm, Slave, Master, Rx, Deliver, Turn, Tick, Flag, Judge, Stop, Class, Capacity}
-use Rattle.ptu_script.specs.Verb.{verb_named, counts_of}
+use Rattle.ptu_script.specs.Verb.{is_counted, name_of, verb_in, verbs}
 use Rattle.ptu_script.specs.Fields.{◌>>=◌, field, from_to, log_of_kind, delay_log, rule_named, truth_of}
 use Rattle.ptu_script.specs.Fields.{port_number_of, domain_of, capacity_of, duration_of, timeout_of, wait_of}
 
@@ -130,14 +128,11 @@ fields_in Capacity line = do
   capacity ← field 4 capacity_of line
   Ok (commands.Event at node (acts.Capacity capacity))
 
--- the line has one of these numbers of words
-abbrev pub has_count : List ℕ → List ℕ → Bool
-has_count counts line = list_any (λ count. count == length (words_of line)) counts
-
--- the command of a line that begins with this word
-abbrev pub command_by : Option Verb → List ℕ → Result Command LineCause
-command_by None line = Err Word
-command_by (Some verb) line = if has_count (counts_of verb) line then fields_in verb line else Err Count
+-- the command of a line that is no comment
+abbrev pub command_in : List ℕ → Result Command LineCause
+command_in line = do
+  verb ← verb_in verbs name_of is_counted line
+  fields_in verb line
 
 -- a line without octets, or one that begins with `#`, commands nothing
 abbrev pub is_comment : List ℕ → Bool
@@ -149,5 +144,5 @@ unfoldable pub command_of : List ℕ → Result (Option Command) Cause
 command_of line =
     if is_comment line then Ok None
     else do
-      command ← named (command_by (verb_named (unwrap_or (word_of line 1) [])) line)
+      command ← named (command_in line)
       Ok (Some command)

@@ -2,7 +2,8 @@
 ghost use Rattle.std.specs.Prelude.{◌≡◌, ◌∷◌, [], Some, None, Ok, Err, pos, negsuc, true, codes};
 ghost use Rattle.ptu_record.specs.declared.rule.Rule.TheVariants.{Flag as OperatorsFlag, Gap};
 ghost use Rattle.ptu_script.specs.Command.{command_of};
-ghost use Rattle.ptu_script.specs.declared.cause.Cause.TheVariants as causes;
+ghost use Rattle.ptu_lines.specs.declared.cause.LineCause.TheVariants as causes;
+ghost use Rattle.ptu_script.specs.declared.cause.Cause.TheVariants.{Line};
 ghost use Rattle.ptu_script.specs.declared.act.Act.TheVariants as acts;
 ghost use Rattle.ptu_script.specs.declared.command.Command.TheVariants as commands;
 
@@ -72,24 +73,24 @@ pub fn good_lines()
 /// Lines that are refused, each for the first cause that applies.
 #[tactic(auto, unfolding(crate::proofs::OnLiterals::commands_on_literals))]
 pub fn refused_lines()
-    ensures word { command_of (codes "walk") ≡ Err causes.Word }
-    ensures word_before_count { command_of (codes " gm") ≡ Err causes.Word }
-    ensures count { command_of (codes "turn 0 10.0.0.1") ≡ Err causes.Count }
-    ensures two_spaces { command_of (codes "turn  0 10.0.0.1 0") ≡ Err causes.Count }
-    ensures count_before_field { command_of (codes "turn x") ≡ Err causes.Count }
+    ensures word { command_of (codes "walk") ≡ Err (Line causes.Word) }
+    ensures word_before_count { command_of (codes " gm") ≡ Err (Line causes.Word) }
+    ensures count { command_of (codes "turn 0 10.0.0.1") ≡ Err (Line causes.Count) }
+    ensures two_spaces { command_of (codes "turn  0 10.0.0.1 0") ≡ Err (Line causes.Count) }
+    ensures count_before_field { command_of (codes "turn x") ≡ Err (Line causes.Count) }
     ensures least_field { command_of (codes "master 10.0.2.1 10.0.0.300 256 gap")
-        ≡ Err (causes.Field 3) }
+        ≡ Err (Line (causes.Field 3)) }
     ensures moment { command_of (codes "turn 4611686018427387904 10.0.0.1 0")
-        ≡ Err (causes.Field 2) }
-    ensures leading_zero { command_of (codes "turn 01 10.0.0.1 0") ≡ Err (causes.Field 2) }
-    ensures table { command_of (codes "turn 0 10.0.0.1 4") ≡ Err (causes.Field 4) }
-    ensures octets { command_of (codes "rx 0 10.0.0.1 10.0.1.17 0c1") ≡ Err (causes.Field 5) }
-    ensures class { command_of (codes "class 10.0.0.1 256") ≡ Err (causes.Field 3) }
+        ≡ Err (Line (causes.Field 2)) }
+    ensures leading_zero { command_of (codes "turn 01 10.0.0.1 0") ≡ Err (Line (causes.Field 2)) }
+    ensures table { command_of (codes "turn 0 10.0.0.1 4") ≡ Err (Line (causes.Field 4)) }
+    ensures octets { command_of (codes "rx 0 10.0.0.1 10.0.1.17 0c1") ≡ Err (Line (causes.Field 5)) }
+    ensures class { command_of (codes "class 10.0.0.1 256") ≡ Err (Line (causes.Field 3)) }
     ensures announce_log { command_of
         (codes "slave 10.0.2.1 0A00000000000021 1 4 60 2 5 -4 0 - 300")
-        ≡ Err (causes.Field 9) }
+        ≡ Err (Line (causes.Field 9)) }
     ensures delay_timeout { command_of
         (codes "slave 10.0.2.1 0A00000000000021 1 4 60 2 5 1 0 - 300 1")
-        ≡ Err (causes.Field 13) }
-    ensures rule { command_of (codes "judge 1 10.0.2.1 10.0.0.1 gaps") ≡ Err (causes.Field 5) }
+        ≡ Err (Line (causes.Field 13)) }
+    ensures rule { command_of (codes "judge 1 10.0.2.1 10.0.0.1 gaps") ≡ Err (Line (causes.Field 5)) }
 {}

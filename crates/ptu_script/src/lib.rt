@@ -15,4 +15,4 @@ pub use act::Act;
 pub use cause::Cause;
 pub use command::{Command, GrandmasterSetup, SlaveSetup};
 pub use reading::read_command;
-pub use verb::Verb;
+pub use verb::{LineVerb, Verb, verb_of};

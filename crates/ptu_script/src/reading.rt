@@ -1,16 +1,13 @@
 //! Reads a line of a script as a command, or the first cause of its refusal.
 
-ghost use Rattle.std.specs.Prelude.{◌≡◌, ◌≢◌, IfOk, IfSome, unwrap_or, []};
-ghost use Rattle.ptu_script.specs.Command.{fields_in, has_count, is_comment, command_by, command_of};
-ghost use Rattle.ptu_script.specs.{Limits.{IsCommandInRange}, Verb.{verb_named, counts_of}};
-ghost use Rattle.ptu_script.specs.declared.verb.Verb.TheVariants.{Rx};
-ghost use Rattle.ptu_lines.specs.Words.{word_of};
+ghost use Rattle.std.specs.Prelude.{◌≡◌, IfOk, IfSome};
+ghost use Rattle.ptu_script.specs.{Command.{command_in, command_of, fields_in}, Limits.{IsCommandInRange}};
 
 use crate::cause::Cause;
 use crate::command::Command;
 use crate::events::{capacity, class, deliver, flag, judge, rx, stop, tick, turn};
 use crate::setups::{gm, master, new_slave};
-use crate::verb::Verb;
+use crate::verb::{Verb, verb_of};
 use ptu_lines::{LineCause, WordList};
 use ptu_units::sizes::LONGEST_DATAGRAM;
 
@@ -40,32 +37,13 @@ fn fields<'a>(
     }
 }
 
-// The line has as many words as its command may have.
-fn is_counted(verb: Verb, line: &WordList) -> bool
-    ensures { result ≡ has_count (counts_of verb) line.now }
-{
-    let count = line.count();
-    match verb {
-        Verb::Gm => count == 8,
-        Verb::Slave => count == 12 || count == 13,
-        Verb::Master | Verb::Rx | Verb::Flag | Verb::Judge => count == 5,
-        Verb::Turn | Verb::Capacity => count == 4,
-        Verb::Deliver | Verb::Tick | Verb::Stop | Verb::Class => count == 3,
-    }
-}
-
 // The command of a line that is no comment.
 fn command<'a>(line: &[u8], room: &'a mut [u8; LONGEST_DATAGRAM]) -> Result<Command<'a>, LineCause>
-    ensures value { result
-        ≡ command_by (verb_named (unwrap_or (word_of line.now 1) [])) line.now }
+    ensures value { result ≡ command_in line.now }
     ensures within { IfOk result IsCommandInRange }
 {
     let words = WordList::new(line);
-    match Verb::of(words.word(1).unwrap_or(&[])) {
-        None => Err(LineCause::Word),
-        Some(verb) if is_counted(verb, &words) => fields(verb, &words, room),
-        Some(_) => Err(LineCause::Count),
-    }
+    fields(verb_of(&words)?, &words, room)
 }
 
 /// What a line of a script commands, or `None` for a line that is empty or begins with `#`. The

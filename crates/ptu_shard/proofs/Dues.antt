@@ -6,8 +6,10 @@ use Rattle.std.proofs.lemmas.Bool.{and_from, and_parts, false_from_ne_true, le-l
 use Rattle.std.proofs.lemmas.List.{Elements.{All-contains, All-weaker}, Kept.{AllPairs-filter}}
 use Rattle.std.proofs.lemmas.List.Sorted.{Contains-permutation, IsPermutation-refl}
 use Rattle.std.proofs.lemmas.Simd.{map-map}
-use Rattle.ptu_history.specs.{Client.{same_lease}, Turns.{is_turned}}
-use Rattle.ptu_history.proofs.{Keys.{same_lease-refl}, Standing.{Contains-filter}}
+use Rattle.ptu_units.specs.Client.{same_lease}
+use Rattle.ptu_history.specs.Turns.{is_turned}
+use Rattle.ptu_units.proofs.Keys.{same_lease-refl}
+use Rattle.ptu_history.proofs.Standing.{Contains-filter}
 use Rattle.ptu_history.proofs.Unique.{Apart-from_pairs, Contains-cons_cases, Contains-first, Contains-from_filter, Contains-later, Rises-unique}
 use Rattle.ptu_shard.specs.declared.{lease.Row.{Row}, queue.Entry.{Entry}}
 use Rattle.ptu_shard.specs.{Queue.{HasEdges, IsNoneBelow, edge_entry, entry_cmp}, Row.{is_row_of}}

@@ -5,8 +5,9 @@ use Rattle.std.proofs.lemmas.Bool.{false_from_ne_true, lt-ltb, ltb-true, true≢
 use Rattle.std.proofs.lemmas.List.{Elements.{All-contains}, Kept.{AllPairs-filter}}
 use Rattle.std.proofs.lemmas.List.Sorted.{Contains-permutation, IsPermutation-sym}
 use Rattle.ptu_units.specs.declared.kind.Kind.{Kind}
-use Rattle.ptu_history.specs.{declared.client.Client.{Client}, Client.{same_lease}}
-use Rattle.ptu_history.proofs.{Keys.{same_lease-refl, same_lease-true}, Standing.{Contains-filter}}
+use Rattle.ptu_units.specs.{declared.client.Client.{Client}, Client.{same_lease}}
+use Rattle.ptu_units.proofs.Keys.{same_lease-refl, same_lease-true}
+use Rattle.ptu_history.proofs.Standing.{Contains-filter}
 use Rattle.ptu_history.proofs.Unique.{Apart-from_pairs, Contains-cons_cases, Contains-first, Contains-from_filter, Contains-later}
 use Rattle.ptu_shard.specs.declared.{lease.Lease.{Lease}, lease.Row.{Row}, queue.Entry.{Entry}}
 use Rattle.ptu_shard.specs.{Queue.{HasEnds, end_entry}, Row.{is_row_of, lease_of, without_row}}

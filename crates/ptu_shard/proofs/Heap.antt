@@ -7,7 +7,7 @@ use Rattle.std.specs.{Ordering.{is_lt, nat_cmp, ordering_then}, declared.cmp.Ord
 use Rattle.std.specs.declared.cmp.{Ordering.TheVariants.{Less, Equal, Greater}, Reverse.{Reverse}}
 use Rattle.std.proofs.lemmas.Bool.{false≢true, true≢false}
 use Rattle.std.proofs.lemmas.List.Elements.{All-from_recursion, All-map, All-weaker}
-use Rattle.ptu_history.specs.Client.{client_cmp, kind_cmp}
+use Rattle.ptu_units.specs.Client.{client_cmp, kind_cmp}
 use Rattle.ptu_shard.specs.declared.queue.Entry.{Entry}
 use Rattle.ptu_shard.specs.contracts.queue.EntryOrd.TheImpl as entries
 use Rattle.ptu_shard.specs.Queue.{IsNoneBelow, entry_cmp}

@@ -4,8 +4,10 @@ use Rattle.std.specs.{List.{Contains}, List.Sorted.{IsPermutation}}
 use Rattle.std.proofs.lemmas.{Bool.{and_parts, eqb-true, ltb-true, true≢false}, List.{length-map}}
 use Rattle.std.proofs.lemmas.List.Sorted.{Contains-permutation, IsPermutation-sym}
 use Rattle.ptu_units.specs.declared.kind.{Kind.{Kind}, Kind.TheVariants.{DelayResp}}
-use Rattle.ptu_history.specs.{declared.client.Client.{Client}, Turns.{is_turned}}
-use Rattle.ptu_history.proofs.{Keys.{same_lease-true}, Unique.{Contains-cons_cases}}
+use Rattle.ptu_units.specs.declared.client.Client.{Client}
+use Rattle.ptu_history.specs.Turns.{is_turned}
+use Rattle.ptu_units.proofs.Keys.{same_lease-true}
+use Rattle.ptu_history.proofs.Unique.{Contains-cons_cases}
 use Rattle.ptu_shard.specs.declared.{lease.Row.{Row}, queue.Entry.{Entry}, lease.Lease.{Lease}}
 use Rattle.ptu_shard.specs.{declared.rows.Key.{Key}, Fields.{AreFields, row_of, rows_of}}
 use Rattle.ptu_shard.specs.Queue.{HasEdges, HasEnds, Queued, edge_entry, end_entry, is_edge_kept}

@@ -4,8 +4,9 @@ use Rattle.std.specs.{List.{find, IsDistinct}, Map.{keys_of, lookup, set_value}}
 use Rattle.std.specs.Option.{option_map}
 use Rattle.std.proofs.lemmas.{Bool.{true≢false}, List.Elements.{All-contains, All-from_recursion}}
 use Rattle.ptu_units.specs.declared.kind.Kind.{Kind}
-use Rattle.ptu_history.specs.{declared.client.Client.{Client}, Client.{same_lease}}
-use Rattle.ptu_history.proofs.{Keys.{same_lease-true}, Unique.{Apart}}
+use Rattle.ptu_units.specs.{declared.client.Client.{Client}, Client.{same_lease}}
+use Rattle.ptu_units.proofs.Keys.{same_lease-true}
+use Rattle.ptu_history.proofs.Unique.{Apart}
 use Rattle.ptu_shard.specs.declared.{lease.Lease.{Lease}, lease.Row.{Row}, rows.Key.{Key}}
 use Rattle.ptu_shard.specs.{Fields.{row_of, rows_of}, Row.{is_row_of, lease_of}}
 use Rattle.ptu_shard.proofs.{RowLists.{Differ}, Spending.{Contains-image, IsImage, image}}

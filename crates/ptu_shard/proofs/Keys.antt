@@ -2,7 +2,7 @@
 use Rattle.std.proofs.Common.{◌≡◌, ◌&&◌, Bool, true, false, ap₂, eqb, refl}
 use Rattle.ptu_units.specs.declared.kind.{Kind.{Kind}, Kind.TheVariants.{Announce, Sync, DelayResp}}
 use Rattle.ptu_units.specs.contracts.kind.KindPartialEq.TheImpl as kinds
-use Rattle.ptu_history.specs.Client.{same_kind, same_lease}
+use Rattle.ptu_units.specs.Client.{same_kind, same_lease}
 use Rattle.ptu_shard.specs.declared.rows.Key.{Key}
 use Rattle.ptu_shard.specs.contracts.rows.KeyPartialEq.TheImpl as keys
 

@@ -6,9 +6,9 @@ use Rattle.std.proofs.lemmas.{Bool.{not-true, true≢false}, List.Kept.{AllPairs
 use Rattle.std.proofs.lemmas.List.Sorted.{Contains-permutation, IsPermutation-sym, IsPermutation-trans, sum_by-IsPermutation}
 use Rattle.std.proofs.lemmas.List.Sums.{sum_by-cons}
 use Rattle.ptu_units.specs.{declared.kind.Kind.{Kind}, Log.{rate_of}}
-use Rattle.ptu_history.specs.{declared.client.Client.{Client}, Client.{same_lease}}
+use Rattle.ptu_units.specs.{declared.client.Client.{Client}, Client.{same_lease}}
 use Rattle.ptu_history.specs.Order.{in_order}
-use Rattle.ptu_history.proofs.Keys.{same_lease-refl, same_lease-sym, same_lease-true}
+use Rattle.ptu_units.proofs.Keys.{same_lease-refl, same_lease-sym, same_lease-true}
 use Rattle.ptu_history.proofs.Order.{IsAsymmetric-total, IsPermutation-in_order, IsSorted-in_order}
 use Rattle.ptu_history.proofs.Standing.{Contains-filter}
 use Rattle.ptu_history.proofs.Unique.{Apart, Apart-from_pairs, Contains-cons_cases, Contains-first, Contains-from_filter, Contains-later, Rises, Rises-from_sorted, Rises-unique, pairs_from_Apart}

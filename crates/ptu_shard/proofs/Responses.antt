@@ -3,12 +3,12 @@ use Rattle.std.proofs.Common.{◌≡◌, ◌∙◌, inr, ℕ, ◌≤◌, ◌++�
 use Rattle.std.specs.{List.{Contains}, Option.{option_map_or}}
 use Rattle.std.proofs.lemmas.Bool.{leb-true, ltb-true}
 use Rattle.ptu_units.specs.declared.kind.Kind.TheVariants.{DelayResp}
-use Rattle.ptu_history.specs.{declared.client.Client.{Client}, Client.{table_of}}
+use Rattle.ptu_units.specs.{declared.client.Client.{Client}, Client.{table_of}}
 use Rattle.ptu_history.specs.{History.{Record, Looked, Sent}, Moments.{book_part, greatest_by}}
 use Rattle.ptu_history.specs.{Live.{live}, Lawful.{earliest, lawful}}
 use Rattle.ptu_history.specs.Events as step
 use Rattle.ptu_history.specs.{Events.{Answer}, Step.{answer_records, delay_answer}}
-use Rattle.ptu_history.proofs.Keys.{same_lease-true}
+use Rattle.ptu_units.proofs.Keys.{same_lease-true}
 use Rattle.ptu_shard.specs.declared.lease.{Lease.{Lease}, Row.{Row}}
 use Rattle.ptu_shard.specs.{Answered.{answer_by}, Row.{is_row_of, lease_of}, Table.{StandsAt}}
 use Rattle.ptu_shard.specs.Turn.{is_answering_row, is_lawful_row, spent_where}

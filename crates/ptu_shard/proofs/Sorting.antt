@@ -6,10 +6,9 @@ use Rattle.std.specs.List.Sorted.{IsPermutation}
 use Rattle.std.proofs.lemmas.Bool.{false_from_ne_true, true≢false, and_from}
 use Rattle.std.proofs.lemmas.Cmp.{nat_cmp_total, on_total, then_total}
 use Rattle.std.proofs.lemmas.List.{Sorted.{sum_by-IsPermutation}, Sums.{sum_by-cons}}
-use Rattle.ptu_units.specs.declared.kind.Kind.{Kind}
-use Rattle.ptu_history.specs.declared.client.Client.{Client}
-use Rattle.ptu_history.specs.Client.{client_cmp, kind_cmp, kind_place, same_client, same_kind, same_lease}
-use Rattle.ptu_history.proofs.Keys.{same_lease-refl, same_lease-true}
+use Rattle.ptu_units.specs.declared.{client.Client.{Client}, kind.Kind.{Kind}}
+use Rattle.ptu_units.specs.Client.{client_cmp, kind_cmp, kind_place, same_client, same_kind, same_lease}
+use Rattle.ptu_units.proofs.Keys.{same_lease-refl, same_lease-true}
 use Rattle.ptu_history.proofs.Unique.{Apart, Apart-from_pairs, Contains-first, Contains-later, pairs_from_Apart}
 use Rattle.ptu_shard.specs.{declared.lease.Row.{Row}, Row.{is_row_of}, Turn.{row_cmp}}
 use Rattle.ptu_shard.proofs.RowLists.{Differ}

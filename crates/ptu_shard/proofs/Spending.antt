@@ -4,10 +4,10 @@ use Rattle.std.specs.List.{AllPairs, Contains, list_any}
 use Rattle.std.proofs.lemmas.{List.{append-nil, get_or-map, length-map}, List.Sums.{sum_by-cons}}
 use Rattle.ptu_units.specs.declared.kind.{Kind.{Kind}, Kind.TheVariants.{Announce, Sync, DelayResp}}
 use Rattle.ptu_units.specs.Log.{period_of, rate_of}
-use Rattle.ptu_history.specs.{declared.client.Client.{Client}, Client.{same_lease, table_of}}
+use Rattle.ptu_units.specs.{declared.client.Client.{Client}, Client.{same_lease, table_of}}
 use Rattle.ptu_history.specs.{History.{Record, Looked, Sent}, Moments.{table_moment, table_part}}
 use Rattle.ptu_history.specs.{Live.{Grant}, Lawful.{earliest, last_period}, Turns.{sent_record}}
-use Rattle.ptu_history.proofs.Keys.{eq-eqb-self, same_lease-sym, same_lease-true}
+use Rattle.ptu_units.proofs.Keys.{eq-eqb-self, same_lease-sym, same_lease-true}
 use Rattle.ptu_history.proofs.Moments.{table_moment-push}
 use Rattle.ptu_history.proofs.Renewals.{earliest_delay, earliest_sent, last_period-granted, sequence_sent}
 use Rattle.ptu_history.proofs.Standing.{last_pushed}

@@ -2,9 +2,10 @@
 use Rattle.std.proofs.Common.{◌≡◌, ◌∙◌, ℕ, List, Bool, true, false, ◌&&◌, cond, refl, sym, ap, ap₂, subst, map, Option, Some, None}
 use Rattle.std.specs.{Prelude.{IfNone, IfSome}, List.{Contains}}
 use Rattle.ptu_units.specs.declared.kind.Kind.TheVariants.{DelayResp}
-use Rattle.ptu_history.specs.{declared.client.Client.{Client}, Client.{same_lease}}
+use Rattle.ptu_units.specs.{declared.client.Client.{Client}, Client.{same_lease}}
 use Rattle.std.proofs.lemmas.Bool.{true≢false}
-use Rattle.ptu_history.proofs.{Keys.{same_lease-refl}, Unique.{Apart}}
+use Rattle.ptu_units.proofs.Keys.{same_lease-refl}
+use Rattle.ptu_history.proofs.Unique.{Apart}
 use Rattle.ptu_shard.specs.declared.{lease.Lease.{Lease}, lease.Row.{Row}, queue.Entry.{Entry}}
 use Rattle.ptu_shard.specs.{Queue.{edge_entry, row_by}, Row.{is_row_of, lease_of}}
 use Rattle.ptu_shard.specs.Turn.{answered_lease, answering_row, is_answering_row, is_due_row, is_lawful_row, spent_row, spent_where}

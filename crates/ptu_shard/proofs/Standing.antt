@@ -3,10 +3,11 @@ use Rattle.std.proofs.Common.{◌≡◌, ◌∙◌, ◌⊎◌, inl, inr, ℕ, �
 use Rattle.std.specs.List.{Contains, filter}
 use Rattle.std.proofs.lemmas.Bool.{false_from_ne_true, true≢false, not-true}
 use Rattle.ptu_units.specs.declared.kind.Kind.{Kind}
-use Rattle.ptu_history.specs.{declared.client.Client.{Client}, Client.{same_lease, table_of}}
+use Rattle.ptu_units.specs.{declared.client.Client.{Client}, Client.{same_lease, table_of}}
 use Rattle.ptu_history.specs.History.{Record, Granted, concerns, is_decision, moment_of}
 use Rattle.ptu_history.specs.{Moments.{table_moment, table_part}, Live.{last_decision}}
-use Rattle.ptu_history.proofs.{Keys.{same_lease-sym, same_lease-true}, Moments.{table_moment-push}}
+use Rattle.ptu_units.proofs.Keys.{same_lease-sym, same_lease-true}
+use Rattle.ptu_history.proofs.Moments.{table_moment-push}
 use Rattle.ptu_history.proofs.Standing.{Contains-filter, last_pushed}
 use Rattle.ptu_history.proofs.Strangers.{earliest-push, sequence_number-push}
 use Rattle.ptu_history.proofs.Unique.{Contains-cons_cases, Contains-first, Contains-from_filter, Contains-later}

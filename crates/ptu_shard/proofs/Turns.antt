@@ -6,14 +6,14 @@ use Rattle.std.specs.Ordering.{is_lt, nat_cmp, ordering_then}
 use Rattle.std.proofs.lemmas.Bool.{and_parts, eqb-true, false_from_ne_true, ltb-true, true≢false}
 use Rattle.std.proofs.lemmas.List.{Elements.{All-contains}, Kept.{AllPairs-filter}}
 use Rattle.std.proofs.lemmas.List.Sorted.{Contains-permutation, IsPermutation-sym}
-use Rattle.ptu_units.specs.declared.kind.Kind.{Kind}
-use Rattle.ptu_history.specs.declared.client.Client.{Client}
-use Rattle.ptu_history.specs.Client.{client_cmp, kind_cmp, same_lease, table_of}
+use Rattle.ptu_units.specs.declared.{client.Client.{Client}, kind.Kind.{Kind}}
+use Rattle.ptu_units.specs.Client.{client_cmp, kind_cmp, same_lease, table_of}
 use Rattle.ptu_history.specs.History.{Record, Looked}
 use Rattle.ptu_history.specs.Live.{Grant, IsDistinctByLease, IsLastDecision, is_live, is_live_of, last_decision, live, standing}
 use Rattle.ptu_history.specs.{Runs.{sequence_number}, Lawful.{earliest, lawful}}
 use Rattle.ptu_history.specs.Turns.{due_grants, is_due, is_turned, message_of, sent_record, turn_cmp}
-use Rattle.ptu_history.proofs.{Currents.{live-standing}, Keys.{same_lease-refl, same_lease-true}}
+use Rattle.ptu_units.proofs.Keys.{same_lease-refl, same_lease-true}
+use Rattle.ptu_history.proofs.Currents.{live-standing}
 use Rattle.ptu_history.proofs.Order.{IsAsymmetric-total, IsPermutation-in_order, IsSorted-in_order}
 use Rattle.ptu_history.proofs.Orders.{due_grants-distinct, due_grants-members, due_grants-only}
 use Rattle.ptu_history.proofs.Standing.{Contains-filter, standing-last}

@@ -10,7 +10,8 @@ use Rattle.ptu_messages.specs.{declared.message.Message.{Message as Timed}, Sent
 use Rattle.ptu_outside.specs.declared.channel.Channel.{Channel}
 use Rattle.ptu_outside.specs.declared.channel.Channel.TheVariants.{Event, General}
 use Rattle.ptu_outside.specs.Departure.{Departure}
-use Rattle.ptu_history.specs.{declared.client.Client.{Client}, Events.{Message}}
+use Rattle.ptu_units.specs.declared.client.Client.{Client}
+use Rattle.ptu_history.specs.Events.{Message}
 use Rattle.ptu_profile.specs.{declared.grandmaster.GmConfig.{GmConfig}, Grandmaster.{header_of}}
 
 -- the timestamp of a moment

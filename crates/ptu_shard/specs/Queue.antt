@@ -2,7 +2,8 @@
 use Rattle.std.specs.Prelude.{◌≡◌, ℕ, ◌<◌, ◌&&◌, ◌==◌, Bool, true, false, List, Option, nat_lt}
 use Rattle.std.specs.{Option.{option_map_or}, List.{All, Contains}}
 use Rattle.std.specs.{Ordering.{is_lt, nat_cmp, ordering_then}, declared.cmp.Ordering.{Ordering}}
-use Rattle.ptu_history.specs.{Client.{client_cmp, kind_cmp}, Turns.{is_turned}}
+use Rattle.ptu_units.specs.Client.{client_cmp, kind_cmp}
+use Rattle.ptu_history.specs.Turns.{is_turned}
 use Rattle.ptu_shard.specs.declared.{lease.Lease.{Lease}, lease.Row.{Row}, queue.Entry.{Entry}}
 
 -- what a queue holds, in an order that is left open, and for how many entries it has room in all

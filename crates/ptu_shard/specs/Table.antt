@@ -1,7 +1,7 @@
 -- What callers see of a table, and the histories that it stands for.
 use Rattle.std.specs.{Prelude.{◌≡◌, ℕ, ◌≤◌, ◌<◌, max, List, [], Some, None, ℤ}, List.{Contains}}
 use Rattle.ptu_units.specs.declared.kind.Kind.{Kind}
-use Rattle.ptu_history.specs.{declared.client.Client.{Client}, Client.{table_of}}
+use Rattle.ptu_units.specs.{declared.client.Client.{Client}, Client.{table_of}}
 use Rattle.ptu_history.specs.{History.{Record, Granted}, Moments.{book_moment, table_moment}}
 use Rattle.ptu_history.specs.{Live.{last_decision}, Runs.{sequence_number}, Lawful.{earliest}}
 use Rattle.ptu_shard.specs.{declared.lease.Lease.{Lease}, declared.lease.Row.{Row}, Row.{lease_of}, Turn.{due_messages}}

@@ -4,7 +4,7 @@ use Rattle.std.specs.{List.{filter}, Ordering.{nat_cmp, ordering_then}}
 use Rattle.std.specs.declared.cmp.Ordering.{Ordering}
 use Rattle.ptu_units.specs.declared.kind.{Kind.{Kind}, Kind.TheVariants.{Announce, Sync, DelayResp}}
 use Rattle.ptu_units.specs.Log.{period_of}
-use Rattle.ptu_history.specs.{declared.client.Client.{Client}, Client.{client_cmp, kind_cmp}}
+use Rattle.ptu_units.specs.{declared.client.Client.{Client}, Client.{client_cmp, kind_cmp}}
 use Rattle.ptu_history.specs.{Order.{in_order}, Events.{Message}, Turns.{is_turned}}
 use Rattle.ptu_shard.specs.{declared.lease.Lease.{Lease}, declared.lease.Row.{Row}, Row.{is_row_of}}
 

@@ -8,11 +8,10 @@ ghost use Rattle.ptu_outside.specs.HandsOver.{HandsOver};
 use crate::answered::Answered;
 use crate::lease::Lease;
 use crate::sending::send_response;
-use ptu_history::Client;
 use ptu_messages::Header;
 use ptu_outside::Port;
 use ptu_profile::GmConfig;
-use ptu_units::Moment;
+use ptu_units::{Client, Moment};
 
 /// Answers a Delay_Req of the client, whose lease of Delay_Resps this is, if there is one.
 pub(crate) fn answer_request<P: Port>(

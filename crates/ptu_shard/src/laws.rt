@@ -3,7 +3,7 @@
 ghost use Rattle.std.specs.Prelude.{◌≡◌, ℕ, ◌≤◌, ◌⊎◌, ◌++◌, [], ◌∷◌, List, false, nat_lt};
 ghost use Rattle.std.specs.Option.{option_map_or};
 ghost use Rattle.ptu_units.specs.declared.kind.Kind.{Kind};
-ghost use Rattle.ptu_history.specs.{declared.client.Client.{Client}, Client.{table_of}};
+ghost use Rattle.ptu_units.specs.{declared.client.Client.{Client}, Client.{table_of}};
 ghost use Rattle.ptu_history.specs.{History.{Record, concerns}, Moments.{table_part}, Live.{live}};
 ghost use Rattle.ptu_shard.specs.{declared.lease.Row.{Row}, Row.{lease_of}, Table.{StandsAt}};
 

@@ -4,8 +4,7 @@ ghost use Rattle.std.specs.Prelude.{◌≡◌, ◌<◌, ◌≤◌, true};
 ghost use Rattle.ptu_history.specs.Turns.{is_turned};
 ghost use Rattle.ptu_shard.specs.Turn.{is_lawful_row, is_due_row, spent_row};
 
-use ptu_history::Client;
-use ptu_units::{Kind, Log, Moment, period};
+use ptu_units::{Client, Kind, Log, Moment, period};
 
 /// What a table keeps of a grant.
 #[derive(Clone, Copy, Debug, PartialEq, Eq)]

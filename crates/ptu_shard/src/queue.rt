@@ -6,8 +6,7 @@ ghost use Rattle.std.specs.{List.Sorted.{IsPermutation}, Ordering.{is_lt}};
 ghost use Rattle.ptu_shard.specs.Queue.{IsNoneBelow, entry_cmp};
 ghost use Rattle.ptu_shard.specs.declared.queue.Entry.{Entry as QueuedEntry};
 
-use ptu_history::Client;
-use ptu_units::{Kind, Moment, OutOfMemory};
+use ptu_units::{Client, Kind, Moment, OutOfMemory};
 use std::alloc::Global;
 use std::cmp::Reverse;
 use std::collections::BinaryHeap;

@@ -14,8 +14,7 @@ ghost use Rattle.ptu_shard.specs.Turn.{answered_lease, is_answering_row, is_due_
 use crate::lease::{Lease, Row};
 use crate::queue::Entry;
 use indexmap::IndexMap;
-use ptu_history::Client;
-use ptu_units::{Kind, Moment, rate};
+use ptu_units::{Client, Kind, Moment, rate};
 
 /// What a lease is found by.
 #[derive(Clone, Copy, PartialEq, Eq, Hash)]

@@ -1,9 +1,9 @@
 //! Values for tests and examples: a client of each table of a grandmaster, and the header of a
 //! Delay_Req; and those of `ptu_profile`.
 
-use ptu_history::Client;
 use ptu_messages::{Header, PortIdentity};
 pub use ptu_profile::samples::CONFIG;
+use ptu_units::Client;
 
 /// The nanoseconds of a second.
 pub const SECOND: u64 = 1_000_000_000;

@@ -8,11 +8,10 @@ ghost use Rattle.ptu_shard.specs.Turn.{message_of_row};
 
 use crate::lease::Row;
 use crate::messages::{response_message, send_fixed, turn_message};
-use ptu_history::Client;
 use ptu_messages::Header;
 use ptu_outside::{Channel, Failed, Port};
 use ptu_profile::GmConfig;
-use ptu_units::{Kind, Moment};
+use ptu_units::{Client, Kind, Moment};
 
 // The channel of a kind (IEEE 1588-2019 annex C).
 fn channel(kind: Kind) -> Channel

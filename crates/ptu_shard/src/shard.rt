@@ -4,7 +4,8 @@
 ghost use Rattle.std.specs.Prelude.{◌≡◌, ◌<◌, ◌≤◌, ◌+◌, ◌*◌, ◌^◌, ℕ, IfOk, max, [], ◌∷◌, ◌++◌, List, map, OnErr, OnOk, length, is_some, slice_get, nat_lt};
 ghost use Rattle.std.specs.{Borrow.{sem}, List.{filter}, List.Sorted.{IsPermutation}};
 ghost use Rattle.ptu_units.specs.{Log.{rate_of}, declared.kind.Kind.TheVariants.{DelayResp}};
-ghost use Rattle.ptu_history.specs.{Client.{table_of}, History.{Record, Granted, Ended, Shed}};
+ghost use Rattle.ptu_units.specs.Client.{table_of};
+ghost use Rattle.ptu_history.specs.History.{Record, Granted, Ended, Shed};
 ghost use Rattle.ptu_history.specs.{Verdict.{Config}, Events.{DelayReq, Turn}};
 ghost use Rattle.ptu_history.specs.{Step.{delay_answer, step}, Turns.{due_grants, message_of}};
 ghost use Rattle.ptu_shard.specs.Answered.{answer_by, failed_by, met_by, moment_of_answer, responses, sent_by};
@@ -23,11 +24,10 @@ use crate::rows::{Key, drop_row, find_lease, row_at, spend_answering};
 use crate::sweeping::drop_ended;
 use crate::turning::send_due;
 use indexmap::IndexMap;
-use ptu_history::Client;
 use ptu_messages::Header;
 use ptu_outside::Port;
 use ptu_profile::GmConfig;
-use ptu_units::{Kind, Moment, OutOfMemory, rate};
+use ptu_units::{Client, Kind, Moment, OutOfMemory, rate};
 use std::alloc::Global;
 use std::marker::Model;
 

@@ -10,14 +10,14 @@ use Rattle.ptu_messages.specs.declared.header.Header.{Header}
 use Rattle.ptu_outside.specs.{declared.port.Port.{Ghosts as Ports}, Departure.{Departure}}
 use Rattle.ptu_outside.specs.{Faults.{HasNotFallen, HasRisen}, HandsOver.{HandsOver}, Telling.{TellsOn}}
 use Rattle.ptu_outside.proofs.HandsOver.{goes_on_both, hands_none, none_failed, rises_first, rises_second, sent_both, sent_none, told_both, told_none}
-use Rattle.ptu_history.specs.{declared.client.Client.{Client}, Client.{same_lease, table_of}}
+use Rattle.ptu_units.specs.{declared.client.Client.{Client}, Client.{same_lease, table_of}}
 use Rattle.ptu_history.specs.History.{Record, Granted, Short, Ended, Capacity, Shed, Looked, Sent}
 use Rattle.ptu_history.specs.Live.{Grant, IsDistinctByLease, live_grants}
 use Rattle.ptu_history.specs.{Lawful.{lawful}, Moments.{book_moment, book_part, greatest_by, table_moment, table_part}, Order.{in_order}}
 use Rattle.ptu_history.specs.{Runs.{sequence_number}, Events.{Answer, Answered, NoGrant, TooSoon, DelayReq, Turn}}
 use Rattle.ptu_history.specs.Turns.{due_grants, is_due, is_turned, message_of, sent_record, turn_cmp}
 use Rattle.ptu_history.specs.{Step.{answer_records, delay_answer, step}, Verdict.{Config}}
-use Rattle.ptu_history.proofs.Keys.{same_lease-sym, same_lease-true}
+use Rattle.ptu_units.proofs.Keys.{same_lease-sym, same_lease-true}
 use Rattle.ptu_history.proofs.{Lists.{greatest_by-push}, Order.{IsPermutation-in_order}, Orders.{due_grants-distinct}}
 use Rattle.ptu_history.proofs.Moments.{book_moment-none, greatest-sent}
 use Rattle.ptu_history.proofs.Strangers.{lawful-push, sequence_number-push}

@@ -3,7 +3,7 @@ use Rattle.std.proofs.Common.{◌≡◌, ℕ, ◌+◌, ◌*◌, ◌≤◌, ◌<�
 use Rattle.std.specs.{Prelude.{nat_le, if◌then◌else◌, IfSome}, Option.{option_map}}
 use Rattle.std.proofs.lemmas.Bool.Decides.{nat_tests}
 use Rattle.ptu_units.specs.{declared.kind.Kind.{Kind}, Log.{rate_of}}
-use Rattle.ptu_history.specs.declared.client.Client.{Client}
+use Rattle.ptu_units.specs.declared.client.Client.{Client}
 use Rattle.ptu_history.specs.Verdict as history
 use Rattle.ptu_history.specs.Verdict.{GrantedFor, OutsideCause, ShortOf, profile}
 use Rattle.ptu_messages.specs.declared.tlv.Ask.{Ask}

@@ -1,7 +1,7 @@
 -- Which answers an ask may be given where the tables stand behind locks (IEEE 1588-2019 clause 16.1.4.1).
 use Rattle.std.specs.Prelude.{◌≡◌, ℕ, ◌+◌, ◌*◌, ◌≤◌, ◌<◌, min, Ok, Err}
-use Rattle.ptu_units.specs.Log.{rate_of}
-use Rattle.ptu_history.specs.{declared.client.Client.{Client}, Verdict.{profile}}
+use Rattle.ptu_units.specs.{declared.client.Client.{Client}, Log.{rate_of}}
+use Rattle.ptu_history.specs.Verdict.{profile}
 use Rattle.ptu_messages.specs.declared.tlv.Ask.{Ask}
 use Rattle.ptu_profile.specs.declared.grandmaster.GmConfig.{GmConfig}
 use Rattle.ptu_admit.specs.declared.verdict.Verdict.{Verdict}

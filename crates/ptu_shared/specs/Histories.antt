@@ -6,7 +6,7 @@ use Rattle.ptu_units.specs.declared.kind.{Kind.{Kind}, Kind.TheVariants.{Announc
 use Rattle.ptu_messages.specs.declared.header.Header.{Header}
 use Rattle.ptu_outside.specs.{declared.port.Port.{Ghosts as Ports}, Departure.{Departure}}
 use Rattle.ptu_outside.specs.{Faults.{HasRisen}, Telling.{TellsOn}}
-use Rattle.ptu_history.specs.{declared.client.Client.{Client}, Client.{table_of}}
+use Rattle.ptu_units.specs.{declared.client.Client.{Client}, Client.{table_of}}
 use Rattle.ptu_history.specs.History.{Record, Granted, Short, Ended, Capacity, Shed, Looked, Sent}
 use Rattle.ptu_history.specs.{Lawful.{lawful}, Runs.{sequence_number}}
 use Rattle.ptu_laws.specs.Sound.{last_sent}

@@ -1,7 +1,7 @@
 -- How often each table was turned, and of what the history of a table is made (the rule is the project's own choice).
 use Rattle.std.specs.Prelude.{◌≡◌, ℕ, suc, zero, ◌+◌, ◌%◌, ◌==◌, if◌then◌else◌, List, [], ◌∷◌, ◌++◌, map, Option, Some, None, option_map}
 use Rattle.std.specs.{List.{AllByRecursion}, Option.{option_or}}
-use Rattle.ptu_history.specs.{declared.client.Client.{Client}, Client.{table_of}}
+use Rattle.ptu_units.specs.{declared.client.Client.{Client}, Client.{table_of}}
 use Rattle.ptu_history.specs.History.{Record, Granted, Short, Ended, Capacity, Shed, Looked, Sent}
 use Rattle.ptu_history.specs.{Step.{answer_records, delay_answer}, Turns.{due_grants, sent_record}}
 use Rattle.ptu_shared.specs.declared.opening.TurnBlanks.{TurnBlanks}

@@ -2,7 +2,8 @@
 
 ghost use Rattle.std.specs.Prelude.{◌≡◌, ℕ, ◌-◌, ◌≤◌, ◌<◌, ◌^◌, max, false, List, ◌∷◌, ◌++◌, IfSome, IfNone, OnSome};
 ghost use Rattle.std.specs.Option.{option_map};
-ghost use Rattle.ptu_history.specs.{Client.{table_of as table_of_client}, History.{Record}};
+ghost use Rattle.ptu_units.specs.Client.{table_of as table_of_client};
+ghost use Rattle.ptu_history.specs.History.{Record};
 ghost use Rattle.ptu_history.specs.{Events.{Request}, Step.{step}};
 ghost use Rattle.ptu_history.specs.Verdict.{verdict as verdict_after};
 ghost use Rattle.ptu_admit.specs.Alone.{GoesOnAlone};
@@ -16,11 +17,10 @@ use crate::place::{First, Fourth, Place, Second, Third};
 use crate::rates::{Rates, move_rate};
 use crate::table::Table;
 use ptu_admit::{Verdict, decide_all, decide_one};
-use ptu_history::Client;
 use ptu_messages::Ask;
 use ptu_outside::Port;
 use ptu_profile::GmConfig;
-use ptu_units::Moment;
+use ptu_units::{Client, Moment};
 use std::sync::ledger::Ledger;
 
 /// What a client asks for, from when on it may be decided, and under which configuration.

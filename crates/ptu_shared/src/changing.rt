@@ -1,7 +1,8 @@
 //! Cancels, changes of capacity and the last sweep, on the values that the locks lend.
 
 ghost use Rattle.std.specs.Prelude.{◌≡◌, ℕ, ◌+◌, ◌≤◌, max, false, List, ◌∷◌, ◌++◌, map, IfOk, OnErr};
-ghost use Rattle.ptu_history.specs.{Client.{table_of as table_of_client}, History.{Record}};
+ghost use Rattle.ptu_units.specs.Client.{table_of as table_of_client};
+ghost use Rattle.ptu_history.specs.History.{Record};
 ghost use Rattle.ptu_history.specs.{Live.{live}, Verdict.{Config}, Events.{Cancel, Resize}};
 ghost use Rattle.ptu_history.specs.{Shedding.{shed_grants}, Step.{step}};
 ghost use Rattle.ptu_admit.specs.Alone.{GoesOnAlone};
@@ -13,9 +14,8 @@ use crate::place::{First, Fourth, Place, Second, Third};
 use crate::rates::{Rates, move_rate};
 use crate::table::Table;
 use ptu_admit::{Cancelled, InForce, Resized, cancel, finish, resize};
-use ptu_history::Client;
 use ptu_outside::Port;
-use ptu_units::{Kind, Moment, OutOfMemory};
+use ptu_units::{Client, Kind, Moment, OutOfMemory};
 use std::alloc::Global;
 use std::sync::ledger::Ledger;
 

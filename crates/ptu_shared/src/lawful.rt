@@ -3,7 +3,7 @@
 //! table's port was sent are messages of it, and its turns are counted.
 
 ghost use Rattle.std.specs.Prelude.{◌≡◌, ◌≤◌, ◌+◌, ℕ, IfOk, IfSome, OnOk, [], max, option_map, true};
-ghost use Rattle.ptu_history.specs.Client.{table_of};
+ghost use Rattle.ptu_units.specs.Client.{table_of};
 ghost use Rattle.ptu_shard.specs.{Answered.{moment_of_answer}, Row.{share_of}, Table.{StandsFor}};
 ghost use Rattle.ptu_admit.specs.{LiveRows.{AreFew, HasMore, no_grants}, Rows.{live_rows}};
 ghost use Rattle.ptu_shared.specs.{Answers.{AnswersAsk}, Delays.{IsLaterIfTooSoon}};
@@ -19,12 +19,11 @@ use crate::table::Table;
 use crate::tally::PortTally;
 use crate::turning::{TurnBook, TurnsOf, audit_turns};
 use ptu_admit::{Cancelled, Live, Resized, Verdict, live_in};
-use ptu_history::Client;
 use ptu_messages::Header;
 use ptu_outside::Port;
 use ptu_profile::GmConfig;
 use ptu_shard::{Answered, Turned};
-use ptu_units::{Kind, Moment, OutOfMemory};
+use ptu_units::{Client, Kind, Moment, OutOfMemory};
 use std::marker::Model;
 use std::sync::ledger::{Book, Ledger, Share};
 

@@ -1,7 +1,7 @@
 //! The four tables and the book, each behind a lock of its own, for several threads.
 
 ghost use Rattle.std.specs.Prelude.{◌≡◌, ◌≤◌, ◌<◌, ◌^◌, ◌+◌, IfNone, IfOk, IfSome, OnErr, option_map, replicate, true};
-ghost use Rattle.ptu_history.specs.Client.{table_of as table_of_client};
+ghost use Rattle.ptu_units.specs.Client.{table_of as table_of_client};
 ghost use Rattle.ptu_shard.specs.Answered.{moment_of_answer};
 ghost use Rattle.ptu_shared.specs.{Answers.{AnswersAsk}, Blanks.{IsBlankOf}};
 ghost use Rattle.ptu_shared.specs.{Delays.{IsLaterIfTooSoon}, Opening.{seen_of}};
@@ -19,12 +19,11 @@ use crate::table::Table;
 use crate::tally::PortTally;
 use crate::turning::{TurnBook, Turner};
 use ptu_admit::{Cancelled, InForce, Live, Resized, Verdict};
-use ptu_history::{Client, table_of};
 use ptu_messages::{Ask, Header};
 use ptu_outside::Port;
 use ptu_profile::GmConfig;
 use ptu_shard::{Answered, Turned};
-use ptu_units::{Capacity, Kind, Moment, OutOfMemory};
+use ptu_units::{Capacity, Client, Kind, Moment, OutOfMemory, table_of};
 use std::alloc::Global;
 use std::sync::ledger::Ledger;
 use std::sync::{Mutex, Wait};

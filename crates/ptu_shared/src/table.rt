@@ -4,7 +4,8 @@
 ghost use Rattle.std.specs.Prelude.{◌≡◌, ◌≤◌, ◌+◌, ◌-◌, ◌^◌, ℕ, [], ◌++◌, List, OnErr, OnOk, is_some, map, max, min, true};
 ghost use Rattle.std.specs.List.Sorted.{IsPermutation};
 ghost use Rattle.ptu_outside.specs.HandsOver.{HandsOver};
-ghost use Rattle.ptu_history.specs.{Client.{table_of}, History.{Record}, Verdict.{Config}};
+ghost use Rattle.ptu_units.specs.Client.{table_of};
+ghost use Rattle.ptu_history.specs.{History.{Record}, Verdict.{Config}};
 ghost use Rattle.ptu_history.specs.{Events.{DelayReq, Turn}, Step.{delay_answer, step}};
 ghost use Rattle.ptu_history.specs.Turns.{due_grants, message_of};
 ghost use Rattle.ptu_shard.specs.Answered.{failed_by, met_by, moment_of_answer, responses, sent_by};
@@ -15,12 +16,11 @@ ghost use Rattle.ptu_shared.specs.{Delays.{IsLaterIfTooSoon}, Histories.{announc
 use crate::place::Place;
 use crate::rates::Rates;
 use crate::tally::PortTally;
-use ptu_history::Client;
 use ptu_messages::Header;
 use ptu_outside::Port;
 use ptu_profile::GmConfig;
 use ptu_shard::{Answered, Shard, Turned};
-use ptu_units::{Moment, OutOfMemory};
+use ptu_units::{Client, Moment, OutOfMemory};
 use std::alloc::Global;
 use std::marker::PhantomData;
 use std::sync::ledger::Share;

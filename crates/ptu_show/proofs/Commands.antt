@@ -8,13 +8,13 @@ use Rattle.ptu_script.specs.declared.act.Act.TheVariants as acts
 use Rattle.ptu_script.specs.declared.command.Command.TheVariants as commands
 use Rattle.ptu_script.specs.declared.verb.{Verb.{Verb}, Verb.TheVariants.{Gm, Rx, Turn}}
 use Rattle.ptu_script.specs.Command.{command_of, fields_in, grandmaster_in, is_comment, moment_of}
-use Rattle.ptu_script.specs.{Cause.{named}, Fields.{◌>>=◌, from_to}, Verb.{counts_of, verb_named}}
+use Rattle.ptu_script.specs.{Cause.{named}, Fields.{◌>>=◌, from_to}, Verb.{counts_of, name_of, verb_among, verbs}}
 use Rattle.ptu_show.proofs.Going.{address}
 use Rattle.ptu_texts.proofs.Read.{decimal_glyphs, decimal_within, octets_glyphs, octets_read}
 use Rattle.ptu_show.proofs.Words.{address_read, client_words, grandmaster_words, turn_words}
 
 -- a line with these words begins with a verb, and has as many words as the verb asks for
-of_verb : (line : List ℕ) (words : List (List ℕ)) (verb : Verb) → is_comment line ≡ false → words_of line ≡ words → verb_named (unwrap_or (slice_get words 0) []) ≡ Some verb
+of_verb : (line : List ℕ) (words : List (List ℕ)) (verb : Verb) → is_comment line ≡ false → words_of line ≡ words → verb_among verbs name_of (unwrap_or (slice_get words 0) []) ≡ Some verb
     → list_any (λ count. count == length words) (counts_of verb) ≡ true → command_of line ≡ (named (fields_in verb line) >>= λ command. Ok (Some command))
 unfolding command_of
 of_verb line words verb c e v n = rw (c, e, v, e, n) refl

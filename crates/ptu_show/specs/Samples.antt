@@ -3,7 +3,8 @@ use Rattle.std.specs.Prelude.{◌≡◌, [], ◌∷◌, ◌++◌, codes, take, d
 use Rattle.hex.specs.Hex.{encode_lower}
 use Rattle.ptu_messages.specs.Samples.{announce, delay_req, delay_resp}
 use Rattle.ptu_report.specs.declared.ending.Ending.TheVariants.{Whole, Refused}
-use Rattle.ptu_script.specs.declared.cause.Cause.TheVariants.{Field, Text}
+use Rattle.ptu_lines.specs.declared.cause.LineCause.TheVariants.{Field, Text}
+use Rattle.ptu_script.specs.declared.cause.Cause.TheVariants.{Line}
 use Rattle.ptu_messages.specs.declared.tlv.Tlv.TheVariants.{Request, Grant, Cancel, Ack, Other}
 use Rattle.ptu_show.specs.{Datagram.{datagram_text, tlv_text}, Shown.{shown, shown_ending}}
 
@@ -48,5 +49,5 @@ InputsAreShown =
     × (shown (codes "-\n0c 12\n") ≡ codes "1 fault short 0\n2 bad field 1\n")
     × (shown (codes "#\t\n") ≡ codes "1 bad text\n")
     × (shown_ending (codes "\n") ≡ Whole 1)
-    × (shown_ending (codes "\n0c1") ≡ Refused 2 (Field 1))
-    × (shown_ending (codes "#\t\n") ≡ Refused 1 Text)
+    × (shown_ending (codes "\n0c1") ≡ Refused 2 (Line (Field 1)))
+    × (shown_ending (codes "#\t\n") ≡ Refused 1 (Line Text))

@@ -12,7 +12,7 @@ use crate::reading::read_datagram;
 use ptu_lines::LineCause;
 use ptu_messages::{MessageFault, read_message};
 use ptu_outside::{Sink, Source};
-use ptu_report::{Reporter, Texts, run};
+use ptu_report::{Reporter, Stepped, Texts, run};
 use ptu_script::Cause;
 use ptu_texts::FaultText;
 use ptu_units::sizes::LONGEST_DATAGRAM;
@@ -69,7 +69,7 @@ impl Reporter for Decoder {
         number: u64,
         line: &[u8],
         texts: &mut Texts,
-    ) -> Result<Option<Cause>, OutOfMemory> {
+    ) -> Stepped<Cause> {
         match read_datagram(line, &mut self.room) {
             Ok(None) => Ok(None),
             Ok(Some(size)) => {
@@ -80,12 +80,7 @@ impl Reporter for Decoder {
         }
     }
 
-    fn close(
-        &mut self,
-        _: Global,
-        lines: u64,
-        texts: &mut Texts,
-    ) -> Result<Option<Cause>, OutOfMemory> {
+    fn close(&mut self, _: Global, lines: u64, texts: &mut Texts) -> Stepped<Cause> {
         texts.add_text(&ShowLine::End { lines })?;
         Ok(None)
     }

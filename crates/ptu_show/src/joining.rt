@@ -16,7 +16,7 @@ use crate::waiting::Waiting;
 use ptu_lines::LineCause;
 use ptu_messages::write_fixed;
 use ptu_outside::{Sink, Source};
-use ptu_report::{Reporter, Texts, run};
+use ptu_report::{Reporter, Stepped, Texts, run};
 use ptu_script::Cause;
 use ptu_texts::OctetsText;
 use ptu_units::OutOfMemory;
@@ -110,7 +110,7 @@ impl Reporter for Joiner {
         number: u64,
         line: &[u8],
         texts: &mut Texts,
-    ) -> Result<Option<LineCause>, OutOfMemory> {
+    ) -> Stepped<LineCause> {
         match read_datagram(line, &mut self.room) {
             Ok(None) => Ok(None),
             Ok(Some(size)) => {
@@ -122,12 +122,7 @@ impl Reporter for Joiner {
         }
     }
 
-    fn close(
-        &mut self,
-        _: Global,
-        lines: u64,
-        texts: &mut Texts,
-    ) -> Result<Option<LineCause>, OutOfMemory> {
+    fn close(&mut self, _: Global, lines: u64, texts: &mut Texts) -> Stepped<LineCause> {
         let keys = self.waiting.count() as u64;
         texts.add_text(&JoinLine::End { lines, keys })?;
         Ok(None)

@@ -8,7 +8,7 @@ use Rattle.ptu_record.specs.Record.{Record}
 use Rattle.ptu_judges.specs.Held.{Held}
 use Rattle.ptu_slave_messages.specs.Node.{Node}
 use Rattle.ptu_slave.specs.{Kept.{Kept}, Seen.{Seen}, Standing.{StandsFor}}
-use Rattle.ptu_outside.specs.{Handed.{SentPart}, Rounds.{in_rounds, left_after, moments_after, timed}}
+use Rattle.ptu_outside.specs.{Handed.{SentPart}, Rounds.{in_rounds, left_after, moments_after, most, timed}}
 use Rattle.ptu_outside.specs.Taken.{Gave, HappenedAt, HaveTaken, Round, event_of, general_of}
 use Rattle.ptu_slave_daemon.specs.declared.line.SlaveLine.{SlaveLine}
 use Rattle.ptu_outside.specs.declared.tally.Tally.{Tally}
@@ -52,8 +52,8 @@ pub record PortDid (once : Bool) (before after : Option (List Departure)) (old n
 pub record RoundTook (before after : Option (List Arrival)) (old new : ℕ) (arrivals : List Arrival)
     (missed : ℕ) : Type 0 where
   pub came : Gave before after arrivals
-  pub few : length arrivals ≤ 64
-  pub whole : ¬ HasRisen old new → (length arrivals ≡ 64) ⊎ IsEmptyTold after
+  pub few : length arrivals ≤ most
+  pub whole : ¬ HasRisen old new → (length arrivals ≡ most) ⊎ IsEmptyTold after
   -- a failed receive is the last
   pub once : missed ≤ 1
 

@@ -1,18 +1,17 @@
 //! What waits on a channel is taken, at most 64 datagrams a round.
 
 ghost use Rattle.std.specs.Prelude.{◌≡◌, map, IfOk, OnOk};
+ghost use Rattle.ptu_outside.specs.Rounds.{most};
 ghost use Rattle.ptu_slave_daemon.specs.Running.{CountsGrow, IsFew, RoundTook, TookEvent, TookGeneral, TookOne};
 ghost use Rattle.ptu_slave.specs.SeenBy.{seen_by};
 
 use crate::steps::take;
+use ptu_config::MOST_DATAGRAMS;
 use ptu_outside::{Clock, Port, Tally};
 use ptu_slave::Slave;
 use ptu_units::OutOfMemory;
 use ptu_units::sizes::LONGEST_DATAGRAM;
 use std::alloc::Global;
-
-/// So many datagrams of a channel a round takes at most.
-const MOST: usize = 64;
 
 // Takes the next datagram of the general channel, which comes by the slave's own port; false where
 // none is received.
@@ -83,13 +82,13 @@ pub(crate) fn take_all_general<P: Port, C: Clock>(
     clock: &mut C,
     counts: &mut Tally,
 ) -> Result<(), OutOfMemory>
-    requires few { IsFew 64 counts.old }
-    ensures grows { CountsGrow 64 counts.old counts.new }
+    requires few { IsFew most counts.old }
+    ensures grows { CountsGrow most counts.old counts.new }
     ensures took { OnOk result (TookGeneral P.Port C.Clock
         (seen_by held slave.old) (seen_by held slave.new)
         clock.old clock.new RoundTook counts.old counts.new) }
 {
-    for _taken in 0..MOST {
+    for _taken in 0..MOST_DATAGRAMS {
         if !take_general(alloc, slave, clock, counts)? {
             return Ok(());
         }
@@ -108,8 +107,8 @@ pub(crate) fn take_all_event<P: Port, C: Clock>(
     clock: &mut C,
     counts: &mut Tally,
 ) -> Result<(), OutOfMemory>
-    requires few { IsFew 64 counts.old }
-    ensures grows { CountsGrow 64 counts.old counts.new }
+    requires few { IsFew most counts.old }
+    ensures grows { CountsGrow most counts.old counts.new }
     ensures waiting { P.waiting (seen_by held slave.new).port ≡ P.waiting
         (seen_by held slave.old).port }
     ensures sent { P.sent event.new ≡ P.sent event.old }
@@ -117,7 +116,7 @@ pub(crate) fn take_all_event<P: Port, C: Clock>(
         (seen_by held slave.old) (seen_by held slave.new)
         clock.old clock.new event.old event.new RoundTook counts.old counts.new) }
 {
-    for _taken in 0..MOST {
+    for _taken in 0..MOST_DATAGRAMS {
         if !take_event(alloc, slave, event, clock, counts)? {
             return Ok(());
         }

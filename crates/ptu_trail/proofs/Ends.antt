@@ -8,8 +8,8 @@ use Rattle.std.specs.declared.cmp.{Ordering.{Ordering}, Ordering.TheVariants.{Le
 use Rattle.std.proofs.lemmas.Bool.{and_parts, eqb-true, false_from_ne_true, false≢true, true≢false, le-ltb, lt-ltb, ltb-false, ltb-true}
 use Rattle.std.proofs.lemmas.List.{Elements.{All-head, All-tail, filter_agree}, Sums.{sum_by-cons}}
 use Rattle.std.proofs.lemmas.Map.Entries.{sum_by-insert_entry, sum_by-remove_entry}
-use Rattle.ptu_history.specs.Client.{client_cmp, kind_cmp, same_client, same_lease}
-use Rattle.ptu_history.specs.declared.client.Client.{Client}
+use Rattle.ptu_units.specs.Client.{client_cmp, kind_cmp, same_client, same_lease}
+use Rattle.ptu_units.specs.declared.client.Client.{Client}
 use Rattle.ptu_trail.specs.declared.live.End.{End}
 use Rattle.ptu_trail.specs.contracts.live.EndOrd.TheImpl as ends
 use Rattle.ptu_trail.specs.contracts.live.EndOrd.TheImpl.Laws.{total-law}

@@ -2,7 +2,7 @@
 use Rattle.std.proofs.Common.{◌≡◌, ◌∙◌, ℕ, ◌≤◌, ◌<◌, ◌^◌, ◌+◌, max, ◌++◌, ℤ, Bool, true, false, not, cond, ltb, List, [], ◌∷◌, map, Option, Some, None, Result, Ok, Err, IfOk, nat_cmp, refl, sym, ap, subst, arith, append_assoc}
 use Rattle.std.specs.{BTreeMap.{get}, List.{list_any, sum_by}}
 use Rattle.std.proofs.lemmas.Bool.{le-ltb, lt-leb, ltb-false, or_parts, eq-eqb}
-use Rattle.ptu_history.specs.declared.client.Client.{Client}
+use Rattle.ptu_units.specs.declared.client.Client.{Client}
 use Rattle.ptu_units.specs.{declared.kind.Kind.{Kind}, Log.{rate_of}}
 use Rattle.ptu_history.specs.History.{Record, Capacity, Granted, capacity_in_force, is_change, is_decision}
 use Rattle.ptu_history.specs.Moments.{book_moment, book_part, greatest_by}

@@ -3,13 +3,13 @@ use Rattle.std.proofs.Common.{◌≡◌, ◌∙◌, ℕ, ◌+◌, ◌^◌, ◌<�
 use Rattle.std.proofs.lemmas.{Bool.{lt-leb, ltb-true, and_right}, Bool.Decides.{Decides-int_eq}}
 use Rattle.std.specs.Ordering.{int_eq}
 use Rattle.ptu_units.specs.declared.kind.{Kind.{Kind}, Kind.TheVariants.{Announce, Sync, DelayResp}}
-use Rattle.ptu_units.specs.Log.{period_of}
-use Rattle.ptu_history.specs.declared.client.Client.{Client}
-use Rattle.ptu_history.specs.Client.{same_client, same_kind, same_lease}
+use Rattle.ptu_units.specs.{declared.client.Client.{Client}, Log.{period_of}}
+use Rattle.ptu_units.specs.Client.{same_client, same_kind, same_lease}
 use Rattle.ptu_history.specs.History.{Record, Ended, Granted, Sent, Shed, concerns, is_decision}
 use Rattle.ptu_history.specs.{Moments.{greatest_by}, Live.{last_decision}}
 use Rattle.ptu_history.specs.Lawful.{earliest, last_period}
-use Rattle.ptu_history.proofs.{AfterSteps.{live-last}, Keys.{same_client-refl, same_lease-refl}}
+use Rattle.ptu_units.proofs.Keys.{same_client-refl, same_lease-refl}
+use Rattle.ptu_history.proofs.AfterSteps.{live-last}
 use Rattle.ptu_history.proofs.{Decisions.{live-ended, live-shed}, Lists.{greatest_by-push}}
 use Rattle.ptu_history.proofs.Renewals.{earliest_delay, earliest_new, earliest_same, earliest_sent, first_continues, last_period-granted, other_continues}
 use Rattle.ptu_history.proofs.Standing.{last_pushed}

@@ -6,13 +6,14 @@ use Rattle.std.proofs.lemmas.List.{append-nil}
 use Rattle.std.proofs.lemmas.List.Elements.{All-contains_itself, All-filter, All-head, All-tail, All-weaker, filter-append}
 use Rattle.std.proofs.lemmas.List.Sums.{sum_by-append, sum_by-cons}
 use Rattle.ptu_units.specs.{declared.kind.Kind.{Kind}, Log.{rate_of}}
-use Rattle.ptu_history.specs.{declared.client.Client.{Client}, Client.{same_lease}}
+use Rattle.ptu_units.specs.{declared.client.Client.{Client}, Client.{same_lease}}
 use Rattle.ptu_history.specs.History.{Record, Granted, Ended, Shed, is_decision}
 use Rattle.ptu_history.specs.Live.{Grant, is_of, last_decision, live, live_grants, standing, without}
 use Rattle.ptu_history.specs.Verdict.{rate_sum}
 use Rattle.ptu_history.proofs.AfterSteps.{live-last}
 use Rattle.ptu_history.proofs.Currents.{standing-ended, standing-granted, standing-shed, standing-undecided}
-use Rattle.ptu_history.proofs.{Keys.{same_lease-true}, Lists.{filter-comm}, Orders.{live_members}}
+use Rattle.ptu_units.proofs.Keys.{same_lease-true}
+use Rattle.ptu_history.proofs.{Lists.{filter-comm}, Orders.{live_members}}
 use Rattle.ptu_laws.proofs.Sums.{sum-filter}
 use Rattle.ptu_trail.specs.declared.{cause.Shedding.{Shedding}, known.Lease.{Lease}, live.End.{End}}
 use Rattle.ptu_trail.specs.{Faults.{record_of}, Known.{IsHeld}}

@@ -2,7 +2,7 @@
 use Rattle.std.proofs.Common.{◌≡◌, ℕ, ◌≤◌, Bool, true, false, ◌&&◌, List, [], ◌∷◌, ◌++◌, Option, Some, None, IsTrue, refl, subst, arith, ltb, leb, cond}
 use Rattle.std.proofs.lemmas.Bool.{ltb-false, le-leb, or_parts, not-false, and_from}
 use Rattle.ptu_units.specs.declared.kind.Kind.{Kind}
-use Rattle.ptu_history.specs.{declared.client.Client.{Client}, Client.{same_client, same_kind}}
+use Rattle.ptu_units.specs.{declared.client.Client.{Client}, Client.{same_client, same_kind}}
 use Rattle.ptu_history.specs.History.{Record, Granted, Short, Ended, Capacity, Shed, Looked, Sent}
 use Rattle.ptu_history.specs.{Moments.{book_moment}, Live.{live}, Lawful.{earliest, lawful}}
 use Rattle.ptu_laws.specs.Sound.{IsInOrder, IsSound, MayStand, last_sent, sent_part}

@@ -2,7 +2,7 @@
 use Rattle.std.proofs.Common.{◌≡◌, ◌∙◌, ℕ, ◌≤◌, ◌++◌, Bool, true, false, cond, List, [], ◌∷◌, Some, refl, sym, ap, subst, arith, max}
 use Rattle.std.proofs.lemmas.Bool.{and_parts, false≢true, ltb-false}
 use Rattle.ptu_units.specs.declared.kind.Kind.{Kind}
-use Rattle.ptu_history.specs.{declared.client.Client.{Client}, Client.{same_client, same_kind, same_lease}}
+use Rattle.ptu_units.specs.{declared.client.Client.{Client}, Client.{same_client, same_kind, same_lease}}
 use Rattle.ptu_history.specs.History.{Record, Granted, Short, Ended, Capacity, Shed, Looked, Sent, decides, lease_records, moment_of}
 use Rattle.ptu_history.specs.Live.{last_decision}
 use Rattle.ptu_history.proofs.{Lists.{by_push, greatest_by-push}, Standing.{last_pushed}}

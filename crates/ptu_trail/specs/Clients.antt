@@ -1,7 +1,8 @@
 -- The clients of a trail by address.
 use Rattle.std.specs.{Prelude.{◌≡◌, ℕ, false, List, Option, Some, None, ◌==◌, find}, BTreeMap.{get}}
 use Rattle.std.specs.Ordering.{nat_cmp}
-use Rattle.ptu_history.specs.{declared.client.Client.{Client}, History.{Record}}
+use Rattle.ptu_units.specs.declared.client.Client.{Client}
+use Rattle.ptu_history.specs.History.{Record}
 use Rattle.ptu_trail.specs.declared.clients.{Account.{Account}, Clients.{Clients}}
 use Rattle.ptu_trail.specs.Faults.{decided_clients, is_back, is_no_moment, is_shared}
 use Rattle.ptu_trail.specs.Known.{IsKnown, unknown}

@@ -4,7 +4,7 @@ use Rattle.std.specs.Prelude.{◌≡◌, ℕ, ◌+◌, ◌*◌, ◌^◌, nat_lt,
 use Rattle.std.specs.{List.{AllByRecursion, find, list_any}, Option.{unwrap_or}}
 use Rattle.ptu_units.specs.declared.{kind.Kind.{Kind}, stamp.Stamp.{Stamp}}
 use Rattle.ptu_units.specs.Log.{IsLogOf, rate_of}
-use Rattle.ptu_history.specs.{declared.client.Client.{Client}, Client.{same_client}}
+use Rattle.ptu_units.specs.{declared.client.Client.{Client}, Client.{same_client}}
 use Rattle.ptu_history.specs.History.{Record, Granted, Short, Ended, Capacity, Shed, Looked, Sent, capacity_in_force}
 use Rattle.ptu_history.specs.{Moments.{book_moment, greatest_by}, Live.{live, live_grants}}
 use Rattle.ptu_history.specs.{Lawful.{earliest}, Verdict.{others, rate_sum}}

@@ -2,7 +2,7 @@
 use Rattle.std.specs.Prelude.{◌≡◌, ℕ, not, nat_lt, Bool, true, ◌&&◌, ◌==◌, List, Option, None, Some}
 use Rattle.std.specs.{List.{All, sum_by}, Map.{values_of}}
 use Rattle.ptu_units.specs.{declared.kind.Kind.{Kind}, Log.{rate_of}}
-use Rattle.ptu_history.specs.{declared.client.Client.{Client}, Client.{same_lease}}
+use Rattle.ptu_units.specs.{declared.client.Client.{Client}, Client.{same_lease}}
 use Rattle.ptu_history.specs.{History.{Record}, Live.{Grant, is_of, live_grants}}
 use Rattle.ptu_trail.specs.declared.{known.Lease.{Lease}, live.End.{End}}
 

@@ -1,7 +1,6 @@
 //! What an audit may find wrong with a record of a grandmaster.
 
-use ptu_history::Client;
-use ptu_units::Kind;
+use ptu_units::{Client, Kind};
 
 /// What is wrong with a report. A trail answers all of them but `Reply`.
 #[derive(Clone, Copy, Debug, PartialEq, Eq)]

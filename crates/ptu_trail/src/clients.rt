@@ -11,8 +11,7 @@ ghost use Rattle.ptu_trail.specs.{Known.{IsKnown}, Live.{IsLatestLeaseOf}};
 use crate::cause::{Fault, NoCause, Shedding};
 use crate::known::{Known, Lease};
 use crate::same::is_same_client;
-use ptu_history::Client;
-use ptu_units::{Kind, OutOfMemory};
+use ptu_units::{Client, Kind, OutOfMemory};
 use std::alloc::Global;
 use std::collections::BTreeMap;
 

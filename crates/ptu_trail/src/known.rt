@@ -28,8 +28,7 @@ pub(crate) struct Known {
 
 impl Known {
     ghost use Rattle.std.specs.Prelude.{◌≡◌, ◌<◌, ◌≤◌, ◌^◌, ◌∷◌, [], ◌++◌, ℕ, List, IfNone, max};
-    ghost use Rattle.ptu_units.specs.Log.{period_of};
-    ghost use Rattle.ptu_history.specs.declared.client.Client.{Client};
+    ghost use Rattle.ptu_units.specs.{declared.client.Client.{Client}, Log.{period_of}};
     ghost use Rattle.ptu_history.specs.History.{Record, Ended, Granted, Sent, Shed};
     ghost use Rattle.ptu_trail.specs.Faults.{fault_of};
     ghost use Rattle.ptu_trail.specs.Known.{IsKnown, fault_by, lease_at, unknown, with_lease};

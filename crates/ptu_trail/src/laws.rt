@@ -4,7 +4,7 @@
 ghost use Rattle.std.specs.Prelude.{◌≡◌, ◌≢◌, ℕ, ◌+◌, ◌*◌, ◌≤◌, ◌<◌, ◌^◌, false, List, [], ◌∷◌, ◌++◌, map, ℤ, None, Some};
 ghost use Rattle.std.specs.List.{All};
 ghost use Rattle.ptu_units.specs.{declared.kind.Kind.{Kind}, declared.stamp.Stamp.{Stamp}};
-ghost use Rattle.ptu_history.specs.declared.client.Client.{Client};
+ghost use Rattle.ptu_units.specs.declared.client.Client.{Client};
 ghost use Rattle.ptu_history.specs.History.{Record, Capacity, Sent};
 ghost use Rattle.ptu_history.specs.Lawful.{earliest};
 ghost use Rattle.ptu_history.specs.Held.{payments};

@@ -8,8 +8,7 @@ ghost use Rattle.ptu_history.specs.Verdict.{rate_sum};
 ghost use Rattle.ptu_trail.specs.Live.{AreLive, AreOf, IsLatestLeaseOf, is_live_entry, is_other_entry, total_of};
 
 use crate::known::Lease;
-use ptu_history::Client;
-use ptu_units::{Kind, Log, OutOfMemory, rate};
+use ptu_units::{Client, Kind, Log, OutOfMemory, rate};
 use std::alloc::Global;
 use std::collections::BTreeMap;
 use std::marker::Model;

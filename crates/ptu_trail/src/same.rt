@@ -1,10 +1,9 @@
 //! Whether two clients, or two pairs of a client and a kind, are one.
 
 ghost use Rattle.std.specs.Prelude.{◌≡◌};
-ghost use Rattle.ptu_history.specs.Client.{kind_place, same_client, same_lease};
+ghost use Rattle.ptu_units.specs.Client.{kind_place, same_client, same_lease};
 
-use ptu_history::Client;
-use ptu_units::Kind;
+use ptu_units::{Client, Kind};
 
 // The place of a kind in the order of kinds.
 fn place(kind: Kind) -> u8

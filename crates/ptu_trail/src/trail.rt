@@ -11,9 +11,8 @@ ghost use Rattle.ptu_trail.specs.{Live.{AreLive, AreOf, total_of}, Trail.{Stands
 use crate::cause::{Fault, NoCause, Shedding};
 use crate::clients::Clients;
 use crate::live::{End, LiveGrants};
-use ptu_history::Client;
 use ptu_units::timescale::NANOS_PER_SECOND;
-use ptu_units::{Kind, Log, OutOfMemory, Stamp, rate};
+use ptu_units::{Client, Kind, Log, OutOfMemory, Stamp, rate};
 use std::alloc::Global;
 
 /// The trail of one grandmaster: what its decisions and messages so far leave, as far as the next

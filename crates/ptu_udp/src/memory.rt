@@ -2,6 +2,7 @@
 
 ghost use Rattle.std.specs.Prelude.{◌≤◌, length, IfOk};
 
+use crate::udp_port::Numbers;
 use crate::{Came, Lookout, Socket};
 use std::alloc::{AllocError, Global};
 use std::io;
@@ -10,6 +11,15 @@ use std::net::{Ipv4Addr, SocketAddr, SocketAddrV4};
 use std::sync::Arc;
 use std::sync::atomic::{AtomicU64, Ordering};
 use std::time::{Clock, Duration};
+
+/// The UDP ports of the two channels of a port under test.
+pub(crate) const NUMBERS: Numbers = Numbers {
+    event: 1319,
+    general: 1320,
+};
+
+/// The IPv4 address that a datagram comes from.
+pub(crate) const CLIENT: u32 = 0xc000_0207;
 
 /// A clock that stands still but while somebody sleeps. Each sleep takes a little longer than was
 /// asked, and each second one may take longer still.
@@ -221,7 +231,7 @@ impl Socket for MemSocket {
             return Err(ErrorKind::WouldBlock.into());
         }
         self.seen.waiting.store(waiting - 1, Ordering::Relaxed);
-        let from = SocketAddrV4::new(Ipv4Addr::new(192, 0, 2, 7), 319);
+        let from = SocketAddrV4::new(Ipv4Addr::from(CLIENT), 319);
         Ok((3, SocketAddr::V4(from)))
     }
 }

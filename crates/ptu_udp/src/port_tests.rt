@@ -1,19 +1,12 @@
-use crate::memory::{MemLookout, MemSocket, Seen, SleepClock};
+use crate::memory::{CLIENT, MemLookout, MemSocket, NUMBERS, Seen, SleepClock};
 use crate::readiness::Readiness;
-use crate::udp_port::{Numbers, UdpPort};
+use crate::udp_port::UdpPort;
 use ptu_outside::{Channel, Port};
 use std::alloc::Global;
 use std::process::Abort;
 use std::sync::atomic::Ordering;
 use std::test::Fail;
 use std::time::Instant;
-
-const NUMBERS: Numbers = Numbers {
-    event: 1319,
-    general: 1320,
-};
-
-const CLIENT: u32 = 0xc000_0207;
 
 // What a test looks at: the clock that the port sleeps by, and what its socket saw.
 #[derive(Drop)]

@@ -1,6 +1,6 @@
-use crate::memory::{MemLookout, MemSocket, Seen, SleepClock};
+use crate::memory::{CLIENT, MemLookout, MemSocket, NUMBERS, Seen, SleepClock};
 use crate::readiness::Readiness;
-use crate::udp_port::{Numbers, UdpPort};
+use crate::udp_port::UdpPort;
 use crate::watch::Watch;
 use ptu_outside::Port;
 use ptu_units::Moment;
@@ -9,13 +9,6 @@ use std::process::Abort;
 use std::sync::atomic::Ordering;
 use std::test::Fail;
 use std::time::Instant;
-
-const NUMBERS: Numbers = Numbers {
-    event: 1319,
-    general: 1320,
-};
-
-const CLIENT: u32 = 0xc000_0207;
 
 // The port of an event channel, by whose clock each sleep takes so many microseconds too long. To
 // the sockets of the general and of the event channel datagrams come at these microseconds.

@@ -1,3 +1,4 @@
 mod Tables
+pub mod Keys
 pub mod BigEndian
 pub mod Signs

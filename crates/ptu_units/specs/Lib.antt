@@ -3,4 +3,5 @@ pub mod Log
 pub mod Counts
 pub mod Limits
 pub mod Number
+pub mod Client
 pub mod Samples

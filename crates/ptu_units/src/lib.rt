@@ -1,6 +1,7 @@
 //! What every layer counts in: kinds of message, logarithms of intervals, moments and timestamps.
 #![tactic(auto)]
 
+mod client;
 mod kind;
 mod laws;
 mod leases;
@@ -18,6 +19,7 @@ mod timeouts;
 pub mod timescale;
 mod writing;
 
+pub use client::{Client, table_of};
 pub use kind::Kind;
 pub use laws::{sample_numbers, twos_complement, written_is_read};
 pub use leases::{Capacity, GrantSeconds};

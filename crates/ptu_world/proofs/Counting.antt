@@ -12,7 +12,7 @@ use Rattle.ptu_messages.specs.declared.message.Body.TheVariants as body
 use Rattle.ptu_messages.specs.{declared.message.Message.{Message}, Message.{SpellsMessage}}
 use Rattle.ptu_messages.specs.Reading.{message_in}
 use Rattle.ptu_messages.proofs.Readings.{found_is}
-use Rattle.ptu_history.specs.declared.client.Client.{Client}
+use Rattle.ptu_units.specs.declared.client.Client.{Client}
 use Rattle.ptu_history.specs.Events as events
 use Rattle.ptu_history.specs.{Events.{Answer}, Core.{core_moment}, History.{Record}, Live.{Grant}}
 use Rattle.ptu_history.specs.{Shedding.{shed_grants}, Verdict.{Config}}

@@ -4,7 +4,8 @@ use Rattle.std.proofs.lemmas.{List.{map-append, length-map}, Bool.{false≢true}
 use Rattle.ptu_units.specs.{declared.kind.Kind.{Kind}, Kind.{kind_of}, Log.{rate_of}}
 use Rattle.ptu_messages.specs.declared.header.Header.{Header}
 use Rattle.ptu_messages.specs.declared.tlv.{Ask.{Ask}, Tlv.{Tlv}}
-use Rattle.ptu_history.specs.{declared.client.Client.{Client}, Core.{history_after}}
+use Rattle.ptu_units.specs.declared.client.Client.{Client}
+use Rattle.ptu_history.specs.Core.{history_after}
 use Rattle.ptu_history.specs.History.{Record, capacity_in_force}
 use Rattle.ptu_history.specs.Verdict as verdicts
 use Rattle.ptu_history.specs.Verdict.{Config, Verdict, GrantedFor, ShortOf, Outside, OutsideCause, OutsideLog, OutsideDuration, granted_seconds, is_log_of, others, profile, profile_of, verdict}

@@ -4,7 +4,7 @@ use Rattle.std.proofs.lemmas.List.Elements.{filter-append}
 use Rattle.ptu_outside.specs.Departure.{Departure}
 use Rattle.std.specs.Option.{option_map_or}
 use Rattle.ptu_units.specs.{declared.kind.Kind.{Kind}, Kind.{kind_of}}
-use Rattle.ptu_history.specs.{declared.client.Client.{Client}, Client.{table_of}}
+use Rattle.ptu_units.specs.{declared.client.Client.{Client}, Client.{table_of}}
 use Rattle.ptu_history.specs.Core.{core_step, history_after, table_step_moment}
 use Rattle.ptu_history.specs.{History.{Record}, Live.{live}, Verdict.{Config}}
 use Rattle.ptu_history.proofs.Decisions.{live-ended}

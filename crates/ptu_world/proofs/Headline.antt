@@ -1,6 +1,6 @@
 -- Every script keeps to the headline.
 use Rattle.std.proofs.Common.{ℕ, List, subst, sym}
-use Rattle.ptu_history.specs.Client.{table_of}
+use Rattle.ptu_units.specs.Client.{table_of}
 use Rattle.ptu_gm_messages.specs.Deciding.{client_of}
 use Rattle.ptu_laws.specs.{Promises.{KeepsPromises}, Turned.{IsInEach}}
 use Rattle.ptu_world.specs.{Deeds.{Grandmaster}, Grandmasters.{opening}}

@@ -9,9 +9,9 @@ use Rattle.ptu_script.specs.declared.act.Act.TheVariants as acts
 use Rattle.ptu_script.specs.declared.command.Command.TheVariants as commands
 use Rattle.ptu_script.specs.declared.{command.GrandmasterSetup.{GrandmasterSetup}, verb.Verb.{Verb}}
 use Rattle.ptu_script.specs.declared.verb.Verb.TheVariants.{Gm, Slave, Master, Rx, Deliver, Turn, Tick, Flag, Judge, Stop, Class, Capacity}
-use Rattle.ptu_script.specs.Command.{command_by, command_of, fields_in, grandmaster_in, has_count, is_comment, moment_of, slave_in}
+use Rattle.ptu_script.specs.Command.{command_in, command_of, fields_in, grandmaster_in, is_comment, moment_of, slave_in}
 use Rattle.ptu_script.specs.Fields.{◌>>=◌, capacity_of, domain_of, duration_of, field, from_to, or_field, port_number_of, rule_named, truth_of}
-use Rattle.ptu_script.specs.{Limits.{IsGrandmasterWithin}, Verb.{counts_of}}
+use Rattle.ptu_script.specs.{Limits.{IsGrandmasterWithin}, Verb.{is_counted, name_of, verb_in, verbs}}
 
 -- ---- what is found through another
 
@@ -97,14 +97,13 @@ fields_within Class line = ok_bound IsWithin (field 2 ip_of line) _ (λ x0 _. ok
 fields_within Capacity line = ok_bound IsWithin (field 2 moment_of line) _ (λ x0 _. ok_bound IsWithin (field 3 ip_of line) _ (λ x1 _.
     ok_bound IsWithin (field 4 capacity_of line) _ (λ capacity e. number_is least_capacity greatest_capacity 4 capacity line e)))
 
-by_verb : (verb : Option Verb) (line : List ℕ) → IfOk (command_by verb line) IsWithin
-by_verb None line = tt
-by_verb (Some verb) line = ok_either IsWithin (has_count (counts_of verb) line) (fields_in verb line) _ (λ _. fields_within verb line) (λ _. tt)
+in_within : (line : List ℕ) → IfOk (command_in line) IsWithin
+in_within line = ok_bound IsWithin (verb_in verbs name_of is_counted line) _ (λ verb _. fields_within verb line)
 
 -- what a line commands is within its limits
 pub command_within : (line : List ℕ) → IfOk (command_of line) (λ o. IfSome o IsWithin)
 unfolding command_of
-command_within line = ok_either (λ o. IfSome o IsWithin) (is_comment line) (Ok None) _ (λ _. tt) (λ _. by _ (by_verb _ line))
+command_within line = ok_either (λ o. IfSome o IsWithin) (is_comment line) (Ok None) _ (λ _. tt) (λ _. by _ (in_within line))
   where
     by : (r : Result Command LineCause) → IfOk r IsWithin → IfOk (named r >>= λ command. Ok (Some command)) (λ o. IfSome o IsWithin)
     by (Ok command) h = h

@@ -9,7 +9,7 @@ use Rattle.ptu_units.specs.Number.{octets_of}
 use Rattle.ptu_messages.specs.declared.header.Header.{Header}
 use Rattle.ptu_messages.specs.Sent.{octets_sent, sent_stamp}
 use Rattle.ptu_outside.specs.Departure.{Departure}
-use Rattle.ptu_history.specs.{declared.client.Client.{Client}, Client.{same_lease, table_of}}
+use Rattle.ptu_units.specs.{declared.client.Client.{Client}, Client.{same_lease, table_of}}
 use Rattle.ptu_history.specs.{Core.{core_moment, core_step, history_after}, Counts.{counts}}
 use Rattle.ptu_history.specs.Events as events
 use Rattle.ptu_history.specs.Events.{Answer, Event}
@@ -19,7 +19,8 @@ use Rattle.ptu_history.specs.Shedding.{shed_grants, shed_record}
 use Rattle.ptu_history.specs.Step.{answer_records, delay_answer, verdict_records}
 use Rattle.ptu_history.specs.Turns.{due_grants, is_due, message_of, sent_record}
 use Rattle.ptu_history.specs.Verdict.{Config, Verdict, GrantedFor, ShortOf, Outside, verdict}
-use Rattle.ptu_history.proofs.{Alike.{sequence_number-alike}, Keys.{same_lease-sym}}
+use Rattle.ptu_units.proofs.Keys.{same_lease-sym}
+use Rattle.ptu_history.proofs.Alike.{sequence_number-alike}
 use Rattle.ptu_history.proofs.LeaseRecords.{lease_records-push}
 use Rattle.ptu_history.proofs.Orders.{due_grants-distinct, due_grants-members, is_due-parts}
 use Rattle.ptu_profile.specs.declared.grandmaster.GmConfig.{GmConfig}

@@ -1,8 +1,8 @@
 -- What each client gets of a grandmaster is within the time that it holds, and comes in time where turns do.
 use Rattle.std.proofs.Common.{◌≡◌, ◌≢◌, ◌∙◌, ℕ, ◌+◌, ◌*◌, ◌≤◌, List, Some, ℤ, ap, subst, sym}
 use Rattle.ptu_units.specs.declared.kind.{Kind.{Kind}, Kind.TheVariants.{DelayResp}}
-use Rattle.ptu_units.specs.Log.{period_of}
-use Rattle.ptu_history.specs.{declared.client.Client.{Client}, Client.{table_of}, Core.{core_history}}
+use Rattle.ptu_units.specs.{declared.client.Client.{Client}, Client.{table_of}, Log.{period_of}}
+use Rattle.ptu_history.specs.Core.{core_history}
 use Rattle.ptu_history.specs.{Events.{Event}, History.{Record, Granted}, Live.{last_decision}, Runs.{chain}}
 use Rattle.ptu_laws.specs.{Served.{held_time, held_time_at, periods_sent, sent_at}, Sound.{IsSound}}
 use Rattle.ptu_laws.specs.Turned.{IsInEach, sent_moments, turn_moments}

@@ -1,13 +1,13 @@
 -- Which Signalings a grandmaster sends.
 use Rattle.std.proofs.Common.{◌≡◌, ◌≢◌, ◌∙◌, ℕ, suc, ◌+◌, ◌%◌, ◌++◌, List, [], ◌∷◌, map, filter, Some, Result, Ok, Err, true, false, cond, refl, ap, arith}
 use Rattle.std.specs.List.{All}
-use Rattle.ptu_units.specs.declared.kind.Kind.{Kind}
+use Rattle.ptu_units.specs.declared.{client.Client.{Client}, kind.Kind.{Kind}}
 use Rattle.ptu_units.specs.declared.kind.Kind.TheVariants as kinds
 use Rattle.ptu_messages.specs.declared.header.Header.{Header}
 use Rattle.ptu_messages.specs.declared.tlv.Tlv.{Tlv}
 use Rattle.ptu_messages.specs.Sent.{octets_sent}
 use Rattle.ptu_outside.specs.Departure.{Departure}
-use Rattle.ptu_history.specs.{declared.client.Client.{Client}, Core.{core_moment}}
+use Rattle.ptu_history.specs.Core.{core_moment}
 use Rattle.ptu_history.specs.Events as events
 use Rattle.ptu_history.specs.{Events.{Answer}, History.{Record}, Live.{Grant}}
 use Rattle.ptu_history.specs.{Turns.{due_grants, message_of}, Verdict.{Config, Verdict, GrantedFor, ShortOf, Outside, verdict}}

@@ -3,7 +3,8 @@ use Rattle.std.proofs.Common.{◌≡◌, ◌∙◌, ℕ, ◌++◌, List, [], ◌
 use Rattle.std.specs.List.{cons_option, list_any}
 use Rattle.std.proofs.lemmas.{Bool.{or_parts, true≢false}, List.{append-nil}}
 use Rattle.ptu_units.specs.{declared.kind.Kind.{Kind}, Kind.{kind_of}}
-use Rattle.ptu_history.specs.{declared.client.Client.{Client}, Core.{core_history, core_moment, core_step, history_after}}
+use Rattle.ptu_units.specs.declared.client.Client.{Client}
+use Rattle.ptu_history.specs.Core.{core_history, core_moment, core_step, history_after}
 use Rattle.ptu_history.specs.Events as events
 use Rattle.ptu_history.specs.{Events.{Event}, History.{Record}, Verdict.{Config}}
 use Rattle.ptu_history.proofs.Histories.{history_after-append, history-none}

@@ -2,14 +2,14 @@
 use Rattle.std.specs.Prelude.{◌≡◌, ◌≢◌, ℕ, ◌+◌, ◌*◌, ◌≤◌, ◌==◌, Bool, true, false, filter, filter_map, List, [], ◌∷◌, ◌++◌, length, map, ℤ, Some, Ok, Err}
 use Rattle.std.specs.List.{All, AllPairs}
 use Rattle.ptu_units.specs.{declared.kind.Kind.{Kind}, Kind.{kind_of}, Log.{period_of}}
-use Rattle.ptu_units.specs.declared.kind.Kind.TheVariants.{DelayResp}
+use Rattle.ptu_units.specs.declared.{client.Client.{Client}, kind.Kind.TheVariants.{DelayResp}}
 use Rattle.ptu_messages.specs.declared.header.Header.{Header}
 use Rattle.ptu_messages.specs.declared.tlv.Tlv.{Tlv}
-use Rattle.ptu_history.specs.declared.client.Client.{Client}
 use Rattle.ptu_history.specs.{Core.{history_after}, Live.{live}}
 use Rattle.ptu_history.specs.Events as events
 use Rattle.ptu_history.specs.{Held.{budget, count, force, held, payments}, History.{Record}}
-use Rattle.ptu_history.specs.{Client.{table_of}, History.{Granted}, Live.{last_decision}, Runs.{chain}}
+use Rattle.ptu_units.specs.Client.{table_of}
+use Rattle.ptu_history.specs.{History.{Granted}, Live.{last_decision}, Runs.{chain}}
 use Rattle.ptu_laws.specs.{Paid.{IsBefore}, Promises.{IsSentAfter, PaysItsPeriod}}
 use Rattle.ptu_laws.specs.Served.{held_time, held_time_at, periods_sent, sent_at}
 use Rattle.ptu_laws.specs.Turned.{IsInEach, sent_moments}

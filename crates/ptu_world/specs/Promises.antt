@@ -3,12 +3,12 @@
 use Rattle.std.specs.Prelude.{◌≡◌, ◌↔◌, ℕ, ◌+◌, ◌/◌, ◌%◌, ◌<◌, ◌≤◌, false, ◌==◌, if◌then◌else◌, filter_map, slice_index, List, [], ◌∷◌, ◌++◌, length, take, drop, Option, Some, None, option_map, Ok, Err, IsTrue}
 use Rattle.std.specs.List.{cons_option}
 use Rattle.ptu_units.specs.declared.kind.{Kind.{Kind}, Kind.TheVariants.{DelayResp}}
-use Rattle.ptu_units.specs.{Kind.{code_of}, Log.{rate_of}}
+use Rattle.ptu_units.specs.{declared.client.Client.{Client}, Kind.{code_of}, Log.{rate_of}}
 use Rattle.ptu_units.specs.Number.{octets_of}
 use Rattle.ptu_messages.specs.{declared.header.Header.{Header}, HeaderSent.{sent_identity}}
 use Rattle.ptu_messages.specs.declared.tlv.{Ask.{Ask}, Tlv.{Tlv}}
 use Rattle.ptu_messages.specs.Sent.{sent_stamp}
-use Rattle.ptu_history.specs.{declared.client.Client.{Client}, Core.{core_history, history_after}}
+use Rattle.ptu_history.specs.Core.{core_history, history_after}
 use Rattle.ptu_history.specs.{Events.{Event}}
 use Rattle.ptu_history.specs.History.{Record, Sent, capacity_in_force}
 use Rattle.ptu_history.specs.{Runs.{sequence_number}}

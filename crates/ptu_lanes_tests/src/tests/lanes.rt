@@ -2,13 +2,12 @@ ghost use Rattle.std.specs.Prelude.{◌≡◌, ◌≤◌, ℕ, length, IfOk};
 ghost use Rattle.ptu_shared.specs.{Blanks.{IsBlankOf}, Opening.{idle_port, sample_config}, Turning.{AreTurnBlanks}};
 
 use ptu_admit::{Closed, Verdict};
-use ptu_history::Client;
 use ptu_lanes::{Base, Control, Delays, Service, control_round, delay_round, turn_round};
 use ptu_messages::Ask;
 use ptu_outside::{Arrival, Channel, Datagram, MemClock, MemPort, samples};
 use ptu_shard::samples::{CONFIG, ONE, TWO, ZERO};
 use ptu_shared::{Blanks, Rates, Seat, Shared, TablePorts, Turner, Turners};
-use ptu_units::{Capacity, Moment};
+use ptu_units::{Capacity, Client, Moment};
 use std::alloc::Global;
 use std::marker::Brand;
 use std::process::Abort;

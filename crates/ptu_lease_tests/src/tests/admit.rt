@@ -4,13 +4,12 @@ ghost use Rattle.ptu_admit.specs.Lent.{four, shares};
 
 use ptu_admit::samples::{Told, numbers_of};
 use ptu_admit::{Book, InForce, Resized, Verdict, cancel, decide_all, decide_one, finish, resize};
-use ptu_history::Client;
 use ptu_messages::Ask;
 use ptu_outside::MemPort;
 use ptu_outside::samples::idle_port;
 use ptu_shard::Shard;
 use ptu_shard::samples::{CONFIG, SECOND, THREE, TWO};
-use ptu_units::{Capacity, Kind, Moment};
+use ptu_units::{Capacity, Client, Kind, Moment};
 use std::alloc::Global;
 use std::process::Abort;
 use std::test::Fail;

@@ -1,8 +1,7 @@
 ghost use Rattle.std.specs.Prelude.{◌≡◌};
-ghost use Rattle.ptu_history.specs.Client.{client_cmp, kind_cmp, same_client, same_kind};
+ghost use Rattle.ptu_units.specs.Client.{client_cmp, kind_cmp, same_client, same_kind};
 
-use ptu_history::Client;
-use ptu_units::Kind;
+use ptu_units::{Client, Kind};
 use std::cmp::Ordering;
 
 fn client(ip: u32, clock: u64, port: u16) -> Client {

@@ -1,9 +1,8 @@
-use ptu_history::Client;
 use ptu_outside::samples::idle_port;
 use ptu_outside::{Channel, MemPort};
 use ptu_shard::samples::{CONFIG, SECOND, TWO};
 use ptu_shard::{Lease, Row, Shard, Turned};
-use ptu_units::{Kind, Log, Moment, period, rate};
+use ptu_units::{Client, Kind, Log, Moment, period, rate};
 use std::alloc::Global;
 use std::process::Abort;
 use std::test::Fail;

@@ -3,13 +3,12 @@ ghost use Rattle.ptu_shared.specs.{Blanks.{IsBlankOf}, Opening.{idle_port, sampl
 
 use ptu_admit::samples::{Told, numbers_of};
 use ptu_admit::{Closed, InForce, Outside};
-use ptu_history::Client;
 use ptu_messages::Ask;
 use ptu_outside::{MemPort, Port, samples};
 use ptu_shard::Answered;
 use ptu_shard::samples::{CONFIG, DELAY_REQ, SECOND, THREE, TWO};
 use ptu_shared::{Blanks, CloseFault, Rates, Seat, Shared, TablePorts, Turner};
-use ptu_units::{Capacity, Kind, Moment};
+use ptu_units::{Capacity, Client, Kind, Moment};
 use std::alloc::Global;
 use std::marker::Brand;
 use std::process::Abort;

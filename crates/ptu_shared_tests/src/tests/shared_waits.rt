@@ -3,11 +3,10 @@ ghost use Rattle.ptu_shared.specs.{Blanks.{IsBlankOf}, Opening.{untold_port}, Tu
 
 use super::shared::{ANNOUNCE, GRANTED, SYNC, ask, capacity, moment};
 use super::shared_held::{Gate, HeldPort, closed_gate};
-use ptu_history::Client;
 use ptu_outside::{Channel, Failed, Port};
 use ptu_shard::samples::{ONE, SECOND, THREE, TWO, ZERO};
 use ptu_shared::{Blanks, Rates, Seat, Shared, TablePorts};
-use ptu_units::Moment;
+use ptu_units::{Client, Moment};
 use std::alloc::Global;
 use std::marker::Brand;
 use std::process::Abort;

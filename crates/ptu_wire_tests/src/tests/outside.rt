@@ -99,6 +99,15 @@ struct Slow {
 }
 
 impl Slow {
+    // It fails from the call behind this one on.
+    fn until(end: u8) -> Slow {
+        Slow {
+            calls: 0,
+            end,
+            is_full: false,
+        }
+    }
+
     fn turn(&mut self) -> io::Result<()> {
         self.calls = self.calls.saturating_add(1);
         match self.calls {
@@ -136,29 +145,21 @@ impl Write for Slow {
 
 #[test]
 fn an_interrupted_call_is_tried_again(rt: HostRuntime) {
-    let mut source = StdSource::new(Slow {
-        calls: 0,
-        end: 2,
-        is_full: false,
-    });
+    let mut source = StdSource::new(Slow::until(2));
     let mut buf = [0; 4];
     let first = (source.read(&mut buf), buf[0]);
     assert_eq!(rt; (first, source.read(&mut buf)), ((Ok(1), 1), Err(Failed)));
-    let mut sink = StdSink::new(Slow {
-        calls: 0,
-        end: 4,
-        is_full: false,
-    });
+    let mut sink = StdSink::new(Slow::until(4));
     let written = (write_whole(&mut sink, b"abc"), write_whole(&mut sink, b"d"));
     assert_eq!(rt; written, (Ok(()), Err(Failed)));
 }
 
 #[test]
 fn a_writer_that_takes_nothing_of_a_piece_is_a_fault(rt: HostRuntime) {
-    let mut sink = StdSink::new(Slow {
-        calls: 0,
-        end: 0,
+    let full = Slow {
         is_full: true,
-    });
+        ..Slow::until(0)
+    };
+    let mut sink = StdSink::new(full);
     assert_eq!(rt; (sink.write(b""), sink.write(b"a")), (Ok(0), Err(Failed)));
 }

@@ -1,5 +1,6 @@
 use Rattle.std.proofs.Common.{◌≡◌, ◌∙◌, ◌-◌, ◌≤◌, ◌++◌, ℕ, max, ap, arith, subst, sym}
-use Rattle.ptu_history.specs.{History.{capacity_in_force}, Moments.{book_moment}, Client.{table_of}}
+use Rattle.ptu_units.specs.Client.{table_of}
+use Rattle.ptu_history.specs.{History.{capacity_in_force}, Moments.{book_moment}}
 use Rattle.ptu_history.specs.{Verdict.{others, verdict}, Step.{verdict_records}}
 use Rattle.ptu_history.proofs.Verdicts.{book_moment-verdict, verdict-outside}
 use Rattle.ptu_admit.specs.Lent.{EachStandsAt, four, live_others, moment_for, moment_of_lent, rows_of_lent}

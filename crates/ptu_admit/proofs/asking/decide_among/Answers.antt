@@ -1,5 +1,5 @@
 use Rattle.std.proofs.Common.{◌≡◌, ◌∙◌, ℕ, [], ◌∷◌, arith, refl, sym}
-use Rattle.ptu_history.specs.Client.{table_of}
+use Rattle.ptu_units.specs.Client.{table_of}
 use Rattle.ptu_admit.specs.{Lent.{lent_as}, Verdict.{verdict_of}}
 use Rattle.ptu_admit.proofs.{Alone.{decided_here, decided_there}, Verdicts.{each_decided}}
 use Rattle.ptu_admit.proofs.asking.decide_among.Goals as goal

@@ -1,6 +1,6 @@
 use Rattle.std.proofs.Common.{◌≡◌, ◌∙◌, ◌+◌, ◌-◌, ◌*◌, ◌≤◌, ◌++◌, ◌∷◌, [], ℕ, max, min, ap, arith, refl, rules, subst, sym}
-use Rattle.ptu_units.specs.Log.{rate_of}
-use Rattle.ptu_history.specs.{Client.{table_of}, History.{Granted, capacity_in_force}}
+use Rattle.ptu_units.specs.{Client.{table_of}, Log.{rate_of}}
+use Rattle.ptu_history.specs.History.{Granted, capacity_in_force}
 use Rattle.ptu_history.specs.{Moments.{book_moment}, Verdict.{GrantedFor, others, verdict}}
 use Rattle.ptu_history.specs.Step.{verdict_records}
 use Rattle.ptu_history.proofs.Verdicts.{verdict-granted, verdict-outside}

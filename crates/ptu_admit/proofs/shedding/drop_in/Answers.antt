@@ -2,7 +2,8 @@ use Rattle.std.proofs.Common.{◌≡◌, ◌∙◌, ◌+◌, ◌-◌, ap, arith,
 use Rattle.ptu_admit.specs.Newest.{grant_of}
 use Rattle.std.proofs.lemmas.List.Sorted.{length_permutation}
 use Rattle.ptu_units.specs.Log.{rate_of}
-use Rattle.ptu_history.proofs.{Keys.{same_lease-refl}, Unique.{Contains-from_filter}}
+use Rattle.ptu_units.proofs.Keys.{same_lease-refl}
+use Rattle.ptu_history.proofs.Unique.{Contains-from_filter}
 use Rattle.ptu_shard.specs.Row.{is_row_of, without_row}
 use Rattle.ptu_shard.proofs.RowLists.{same_permuted}
 use Rattle.ptu_admit.proofs.RowKeys.{kept_rate-member, length-filter-lt}

@@ -1,7 +1,8 @@
 use Rattle.std.proofs.Common.{◌≡◌, ◌∙◌, ap, ap₂, sym, true, ℕ, Option, Some, None}
 use Rattle.std.specs.Prelude.{IfNone}
-use Rattle.ptu_history.specs.Client.{same_lease}
-use Rattle.ptu_history.proofs.{Keys.{same_lease-refl}, Unique.{Apart-from_pairs}}
+use Rattle.ptu_units.specs.Client.{same_lease}
+use Rattle.ptu_units.proofs.Keys.{same_lease-refl}
+use Rattle.ptu_history.proofs.Unique.{Apart-from_pairs}
 use Rattle.std.proofs.lemmas.Bool.{true≢false}
 use Rattle.ptu_shard.specs.{declared.lease.Row.{Row}, Row.{is_row_of}}
 use Rattle.ptu_shard.proofs.{Members.{kept_row}, RowLists.{Differ, missing_none}}

@@ -1,7 +1,7 @@
 use Rattle.std.proofs.Common.{refl}
 use Rattle.ptu_history.specs.History.{Ended, Shed}
 use Rattle.ptu_history.proofs.AfterSteps.{earliest-here, last_period-ended, last_period-shed, root-here, sequence_number-here}
-use Rattle.ptu_history.proofs.Keys.{same_lease-refl}
+use Rattle.ptu_units.proofs.Keys.{same_lease-refl}
 use Rattle.ptu_history.proofs.laws.after_end.Goals as goal
 
 pub returns : goal.returns

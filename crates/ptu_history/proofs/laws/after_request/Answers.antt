@@ -1,6 +1,7 @@
 use Rattle.std.proofs.Common.{◌≡◌, ℕ, ◌+◌, ◌++◌, List, [], ◌∷◌, Bool, true, false, cond, refl, ap, ℤ}
 use Rattle.ptu_units.specs.{declared.kind.Kind.{Kind}, Log.{period_of}}
-use Rattle.ptu_history.specs.{declared.client.Client.{Client}, History.{Record, Granted}}
+use Rattle.ptu_units.specs.declared.client.Client.{Client}
+use Rattle.ptu_history.specs.History.{Record, Granted}
 use Rattle.ptu_history.specs.{Live.{last_decision, live}, Runs.{continues}, Lawful.{earliest}}
 use Rattle.ptu_history.specs.Step.{verdict_records}
 use Rattle.ptu_history.proofs.LiveGrants.{Continued, continued}

@@ -1,4 +1,4 @@
-use Rattle.ptu_history.specs.Client.{table_of}
+use Rattle.ptu_units.specs.Client.{table_of}
 use Rattle.ptu_history.proofs.Moments.{book_step_moment-is, table_step_moment-is}
 use Rattle.ptu_history.proofs.laws.moments.Goals as goal
 

@@ -2,7 +2,7 @@ use Rattle.std.proofs.Common.{◌≡◌, ◌∙◌, ℕ, ◌<◌, cond, eqb, ref
 use Rattle.std.specs.{Ordering.{nat_cmp, ordering_then}, declared.cmp.Ordering.{Ordering}}
 use Rattle.std.specs.declared.cmp.Ordering.TheVariants.{Less, Equal, Greater}
 use Rattle.std.proofs.lemmas.Bool.{eq-eqb, le-ltb, lt-ltb}
-use Rattle.ptu_history.specs.{declared.client.Client.{Client}, Client.{client_cmp}}
+use Rattle.ptu_units.specs.{declared.client.Client.{Client}, Client.{client_cmp}}
 use Rattle.ptu_history.proofs.laws.orders.Goals as goal
 
 then_first : (a b : Ordering) → a ≡ Less → ordering_then a b ≡ Less

@@ -1,7 +1,7 @@
 use Rattle.std.proofs.Common.{◌≡◌, ℕ, List, [], refl, ltb}
 use Rattle.std.specs.List.{filter}
-use Rattle.ptu_units.specs.declared.kind.Kind.{Kind}
-use Rattle.ptu_history.specs.{declared.client.Client.{Client}, History.{Record}}
+use Rattle.ptu_units.specs.declared.{client.Client.{Client}, kind.Kind.{Kind}}
+use Rattle.ptu_history.specs.History.{Record}
 use Rattle.ptu_history.specs.{Live.{live_grants, standing, without}, Verdict.{others, rate_sum}}
 use Rattle.ptu_history.proofs.Currents.{live-standing, standing-ended, standing-granted, standing-shed, standing-undecided}
 use Rattle.ptu_history.proofs.Standing.{standing-distinct, standing-last, standing-member}

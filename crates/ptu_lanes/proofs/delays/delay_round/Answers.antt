@@ -1,5 +1,6 @@
 use Rattle.std.proofs.Common.{◌≡◌, ◌+◌, refl, inl, inr, arith}
 use Rattle.ptu_outside.proofs.Told.{HasRisenBy-before}
+use Rattle.ptu_outside.specs.Rounds.{most}
 use Rattle.ptu_lanes.specs.Waiting.{HasTaken}
 use Rattle.ptu_lanes.proofs.Taking.{gave_first, none_taken, taken_more, took_up_to}
 use Rattle.ptu_lanes.proofs.delays.delay_round.Goals as goal
@@ -19,7 +20,7 @@ loop-i-preserved g c =
 
 pub returns-after-loop-i-clause-round : goal.returns-after-loop-i-clause-round
 returns-after-loop-i-clause-round g c same =
-    let all : c.loop-i._i ≡ 64 = omega (arith, c.loop-i-test.false, c.loop-i.auto._i-end) in
+    let all : c.loop-i._i ≡ most = omega (arith, c.loop-i-test.false, c.loop-i.auto._i-end) in
     gave_first g.P.Port g.C.Clock c.loop-i._i _ _ _ _ _ c.loop-i.invariant.taken (omega (arith, all)) (inl all)
 
 pub returns-then-not-goes_on-clause-round : goal.returns-then-not-goes_on-clause-round
@@ -33,17 +34,17 @@ returns-then-not-goes_on-clause-round g c same =
 
 pub returns-after-loop-i-clause-took : goal.returns-after-loop-i-clause-took
 returns-after-loop-i-clause-took g c =
-    took_up_to g.P.Port g.C.Clock c.loop-i._i _ 64 _ _ _ _ c.loop-i.invariant.taken (omega (arith, c.loop-i.auto._i-end))
+    took_up_to g.P.Port g.C.Clock c.loop-i._i _ most _ _ _ _ c.loop-i.invariant.taken (omega (arith, c.loop-i.auto._i-end))
 
 pub returns-then-not-goes_on-clause-took : goal.returns-then-not-goes_on-clause-took
 returns-then-not-goes_on-clause-took g c =
-    took_up_to g.P.Port g.C.Clock (c.loop-i._i + 0) _ 64 _ _ _ _
+    took_up_to g.P.Port g.C.Clock (c.loop-i._i + 0) _ most _ _ _ _
     (taken_more g.P.Port g.C.Clock c.loop-i._i 0 _ _ _ _ _ _ _ _ c.loop-i.invariant.taken (rw c.if-not-goes_on.true at c.in_ok-one.ensures.taken))
     (omega (arith, c.loop-i-test.true))
 
 pub returns-in_err-one-clause-took : goal.returns-in_err-one-clause-took
 returns-in_err-one-clause-took g c =
-    took_up_to g.P.Port g.C.Clock (c.loop-i._i + 1) _ 64 _ _ _ _
+    took_up_to g.P.Port g.C.Clock (c.loop-i._i + 1) _ most _ _ _ _
     (taken_more g.P.Port g.C.Clock c.loop-i._i 1 _ 0 _ _ _ _ _ _ c.loop-i.invariant.taken c.in_err-one.ensures.broke_off)
     (omega (arith, c.loop-i-test.true))
 

@@ -1,6 +1,7 @@
 use Rattle.std.proofs.Common.{◌≡◌, ◌∙◌, ◌+◌, ◌++◌, [], length, length-append, refl, inl, arith}
 use Rattle.ptu_outside.proofs.HandsOver.{just_both}
 use Rattle.ptu_grandmaster.proofs.Heard.{on_err}
+use Rattle.ptu_outside.specs.Rounds.{most}
 use Rattle.ptu_lanes.proofs.Exchanges.{broke_off, exchanged_is, nothing_yet, round_is, round_over, served-append}
 use Rattle.ptu_lanes.proofs.Moments.{passed-append, passed_none}
 use Rattle.ptu_lanes.proofs.signaling.control_round.Goals as goal
@@ -25,7 +26,7 @@ loop-i-preserved g c =
 pub returns-after-loop-i-clause-round : goal.returns-after-loop-i-clause-round
 returns-after-loop-i-clause-round g c =
     let inv = c.loop-i.invariant in
-    let all : length inv.exchanges ≡ 64 = omega (arith, inv.many, c.loop-i-test.false, c.loop-i.auto._i-end) in
+    let all : length inv.exchanges ≡ most = omega (arith, inv.many, c.loop-i-test.false, c.loop-i.auto._i-end) in
     round_is g.P.Port g.L.Rates.most c.args.service.now.base.now.config.now inv.exchanges _ _ _ _ _ _ _ _ inv.served (omega (arith, all)) (inl all)
 
 pub returns-then-not-goes_on-clause-round : goal.returns-then-not-goes_on-clause-round

@@ -1,6 +1,7 @@
 use Rattle.std.proofs.Common.{◌≡◌, ◌∙◌, ap, max, [], ◌∷◌, refl, sym, arith}
 use Rattle.ptu_admit.specs.Lent.{lent_as}
-use Rattle.ptu_history.specs.{Client.{table_of}, Core.{table_step_moment}}
+use Rattle.ptu_units.specs.Client.{table_of}
+use Rattle.ptu_history.specs.Core.{table_step_moment}
 use Rattle.ptu_shard.specs.Turn.{is_answering_row}
 use Rattle.ptu_grandmaster.proofs.{After.{after_delay}, OneTable.{delay_on, shares_spent}}
 use Rattle.ptu_grandmaster.proofs.gm.Gm.answer_delay.Goals as goal

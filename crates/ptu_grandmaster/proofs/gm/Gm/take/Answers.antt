@@ -1,5 +1,6 @@
 use Rattle.std.proofs.Common.{◌∙◌, ◌++◌, List, ap, sym, subst}
-use Rattle.ptu_history.specs.{declared.client.Client.{Client}, Core.{core_step, history_after}}
+use Rattle.ptu_units.specs.declared.client.Client.{Client}
+use Rattle.ptu_history.specs.Core.{core_step, history_after}
 use Rattle.ptu_history.specs.Events as events
 use Rattle.ptu_gm_messages.specs.declared.item.Item.{Item}
 use Rattle.ptu_gm_messages.specs.Deciding.{client_of, events_of_items, opened_with}

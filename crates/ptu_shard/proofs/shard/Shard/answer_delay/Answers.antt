@@ -1,7 +1,8 @@
 use Rattle.std.proofs.Common.{◌≡◌, ◌∙◌, ◌++◌, ◌∷◌, sym, ap, arith, max, refl, subst}
 use Rattle.std.specs.List.{AllPairs}
 use Rattle.std.proofs.lemmas.List.{length-map}
-use Rattle.ptu_history.specs.{Client.{table_of}, History.{Looked}, Moments.{book_moment}}
+use Rattle.ptu_units.specs.Client.{table_of}
+use Rattle.ptu_history.specs.{History.{Looked}, Moments.{book_moment}}
 use Rattle.ptu_history.specs.Step.{answer_records, delay_answer}
 use Rattle.ptu_shard.specs.{Fields.{row_of, rows_of}, Queue.{HasEdges, HasEnds}, Row.{share_of}}
 use Rattle.ptu_shard.specs.{Turn.{is_answering_row}, Answered.{answer_by}}

@@ -2,7 +2,7 @@
 //! to its table by `table_of`.
 
 ghost use Rattle.std.specs.Prelude.{◌≡◌, ◌<◌};
-ghost use Rattle.ptu_history.specs.Client.{table_of as table_of_client};
+ghost use Rattle.ptu_units.specs.Client.{table_of as table_of_client};
 
 /// A client of a grandmaster: the IPv4 address that a message came from, and the message's
 /// sourcePortIdentity (IEEE 1588-2019 clause 7.5.2). Clients are ordered by address, then clock

@@ -2,8 +2,8 @@
 use Rattle.std.proofs.Common.{◌≡◌, ℕ, ◌&&◌, Bool, true, false, eqb, refl, sym, subst}
 use Rattle.std.proofs.lemmas.Bool.{eqb-true, eq-eqb, and_parts, and_from, false≢true}
 use Rattle.ptu_units.specs.declared.kind.{Kind.{Kind}, Kind.TheVariants.{Announce, Sync, DelayResp}}
-use Rattle.ptu_history.specs.declared.client.Client.{Client}
-use Rattle.ptu_history.specs.Client.{same_client, same_kind, same_lease, table_of}
+use Rattle.ptu_units.specs.declared.client.Client.{Client}
+use Rattle.ptu_units.specs.Client.{same_client, same_kind, same_lease, table_of}
 
 client_is : (a b : Client) → a.ip ≡ b.ip → a.clock ≡ b.clock → a.port ≡ b.port → a ≡ b
 client_is a b p q r = λ i. record { ip = p i; clock = q i; port = r i }
