@@ -17,7 +17,8 @@ use Rattle.ptu_config.specs.{declared.settings.GmSettings.{GmSettings}, Commands
 use Rattle.ptu_config.specs.declared.{command.Cause.{Cause}, command.Command.{Command}}
 use Rattle.ptu_config.specs.declared.command.Command.TheVariants as commands
 use Rattle.ptu_daemon.specs.Asked.{AsksNothing, CommandNothing}
-use Rattle.ptu_daemon.specs.Commands.{DoneRound, HaveHappened, answers_from, done_events, events_in, happens_by, order_answers, order_in, order_with, situation_in}
+use Rattle.ptu_lanes.specs.Orders.{order_in, order_with}
+use Rattle.ptu_daemon.specs.Commands.{DoneRound, HaveHappened, answers_from, done_events, events_in, happens_by, order_answers, situation_in}
 use Rattle.ptu_daemon.specs.Events.{Happening, change_in, change_to, config_of, round_with, taking, turns}
 use Rattle.ptu_daemon.specs.{Lawful.{history_by}, Sends.{Standing, after_all, class_after, class_by}}
 use Rattle.ptu_daemon.specs.{Served.{held_by}, Serving.{AreUnspoken}}

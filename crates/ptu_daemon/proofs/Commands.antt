@@ -7,7 +7,8 @@ use Rattle.ptu_outside.specs.declared.arrival.Arrival.{Arrival}
 use Rattle.ptu_grandmaster.specs.declared.driving.GmEvent.{GmEvent}
 use Rattle.ptu_config.specs.Commands.{is_stop_order}
 use Rattle.ptu_outside.specs.Taken.{HappenedAt, HaveTaken, Round}
-use Rattle.ptu_daemon.specs.Commands.{AreAll, AreCounted, AreRoundsOf, AreSpoken, DoneRound, EndsOr, HaveHappened, IsCounted, order_answers, answers_from, events_in, done_events, happens_by, happens_from, happens_in, is_last, listed, many_from, order_in, rounds_of, rounds_until, situation_in, spoken_of}
+use Rattle.ptu_lanes.specs.Orders.{EndsOr, listed, order_in}
+use Rattle.ptu_daemon.specs.Commands.{AreAll, AreCounted, AreRoundsOf, AreSpoken, DoneRound, HaveHappened, IsCounted, order_answers, answers_from, events_in, done_events, happens_by, happens_from, happens_in, is_last, many_from, rounds_of, rounds_until, situation_in, spoken_of}
 use Rattle.ptu_daemon.specs.{Events.{Given, Happening, round_given, round_with}, Sends.{Standing, after_all, sends_by}}
 use Rattle.ptu_daemon.proofs.Running.{after_all-append, sends_by-append}
 

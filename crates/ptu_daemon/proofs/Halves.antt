@@ -32,7 +32,8 @@ use Rattle.ptu_gm_messages.specs.Replies.{cancels_to, identity_of, lease_of, sig
 use Rattle.ptu_grandmaster.specs.declared.driving.GmEvent.{GmEvent}
 use Rattle.ptu_grandmaster.specs.declared.driving.GmEvent.TheVariants.{Take, Turn, Class, Capacity}
 use Rattle.ptu_lanes.specs.Rounds.{Exchange, answers_of, replies, reply_if_any, reply_in, reply_with}
-use Rattle.ptu_lanes.specs.Served.{replies_around}
+use Rattle.ptu_config.specs.declared.settings.GmSettings.{GmSettings}
+use Rattle.ptu_lanes.specs.Orders.{LaneAt, LaneRound, at_next, lane_sends, round_sends, sequence_on}
 use Rattle.ptu_daemon.specs.Sends.{Standing, event_sends, heard_sends, sends_by, standing_after}
 use Rattle.ptu_daemon.specs.{Pairs.{step_at}, Steps.{has_two_steps, step_by, step_read, step_of}}
 use Rattle.ptu_daemon.specs.declared.step.Step.TheVariants.{OneStepSync, TwoStepSync, FollowUp, Other}
@@ -211,13 +212,13 @@ whole_replies config (exchange ∷ exchanges) =
 
 -- ---- the messages of a table's history
 
-module _ (config : GmConfig) where
-  whole_of : (before : List Record) (x : ℕ) (c : Client) (k : Kind) (d : Departure) → IsMessage config before x c k d → is_half (step_at d) ≡ false
-  whole_of before x c Announce d is = ap (λ e. is_half (step_at e)) is ∙ whole_turned config x Announce (sequence_number before c Announce)
+module _ (told : Bool) (config : GmConfig) where
+  whole_of : (before : List Record) (x : ℕ) (c : Client) (k : Kind) (d : Departure) → IsMessage told config before x c k d → is_half (step_at d) ≡ false
+  whole_of before x c Announce d (now, class, is) = ap (λ e. is_half (step_at e)) is ∙ whole_turned now x Announce (sequence_number before c Announce)
   whole_of before x c Sync d is = ap (λ e. is_half (step_at e)) is ∙ whole_turned config x Sync (sequence_number before c Sync)
   whole_of before x c DelayResp d (request, is) = ap (λ e. is_half (step_at e)) is ∙ whole_response config x c request
 
-  pub whole_messages : (before history : List Record) (ds : List Departure) → AreMessages config before history ds → AreWhole ds
+  pub whole_messages : (before history : List Record) (ds : List Departure) → AreMessages told config before history ds → AreWhole ds
   whole_messages before [] ds are = subst AreWhole (sym are) tt
   whole_messages before (Granted n c k l u ∷ rest) ds are = whole_messages (before ++ Granted n c k l u ∷ []) rest ds are
   whole_messages before (Short n c ∷ rest) ds are = whole_messages (before ++ Short n c ∷ []) rest ds are
@@ -256,7 +257,12 @@ other_replies config [] = tt
 other_replies config (exchange ∷ exchanges) =
     other_both (reply_in config exchange) _ (other_with config _ (heard_in config exchange.datagram.bytes) (answers_of exchange)) (other_replies config exchanges)
 
-pub other_around : (config : GmConfig) (early : List Exchange) (shed : List (Client × Kind)) (late : List Exchange) → AreOther (replies_around config early shed late)
-other_around config early shed late =
-    other_both (replies config early ++ cancels_to config 0 shed) (replies config late)
-    (other_both (replies config early) (cancels_to config 0 shed) (other_replies config early) (other_cancels config 0 shed)) (other_replies config late)
+pub other_rounds : (settings : GmSettings) (config : GmConfig) (at : LaneAt) (rounds : List LaneRound) → AreOther (lane_sends settings config at rounds)
+unfolding lane_sends
+other_rounds settings config at [] = tt
+other_rounds settings config at (r ∷ later) =
+    other_both (round_sends config at r) (lane_sends settings config (at_next settings at r) later)
+    (other_both (cancels_to config at.sequence r.changed ++ replies config r.exchanges) (cancels_to config (sequence_on at.sequence r.changed) r.shed)
+    (other_both (cancels_to config at.sequence r.changed) (replies config r.exchanges) (other_cancels config at.sequence r.changed) (other_replies config r.exchanges))
+    (other_cancels config (sequence_on at.sequence r.changed) r.shed))
+    (other_rounds settings config (at_next settings at r) later)

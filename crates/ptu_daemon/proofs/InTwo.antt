@@ -1,5 +1,5 @@
 -- From what is said of ports in two steps to what the ports below them were sent.
-use Rattle.std.proofs.Common.{◌≡◌, ◌∙◌, ◌⊎◌, inl, inr, ℕ, ◌≤◌, ◌||◌, Bool, true, false, List, [], ◌∷◌, ◌++◌, length, Option, Some, None, IsSome, IfSome, option_map, Result, Ok, Err, refl, sym, ap, subst}
+use Rattle.std.proofs.Common.{◌≡◌, ◌∙◌, ◌⊎◌, inl, inr, ℕ, ◌≤◌, ◌||◌, Bool, true, false, List, [], ◌∷◌, ◌++◌, length, Option, Some, None, is_some, IsSome, IfSome, option_map, Result, Ok, Err, refl, sym, ap, subst}
 use Rattle.std.specs.{Prelude.{IfErr, OnOk}, List.{AllByRecursion, items_where_true, list_any}}
 use Rattle.ptu_outside.specs.declared.{clock.Clock.{Ghosts as Clocks}, endpoint.Endpoint.{Endpoint}}
 use Rattle.ptu_outside.specs.declared.{opened.Opened.{Opened}, port.Port.{Ghosts as Ports}, sink.Sink.{Ghosts as Sinks}}
@@ -10,7 +10,7 @@ use Rattle.ptu_outside.specs.{Faults.{HasRisen}, Handed.{SentPart, WasHanded}, P
 use Rattle.ptu_outside.specs.declared.fault.DaemonFault.{DaemonFault}
 use Rattle.ptu_outside.specs.declared.fault.DaemonFault.TheVariants as faults
 use Rattle.ptu_shared.specs.{Histories.{SendsLawfully}, Opening.{seen_of}}
-use Rattle.ptu_lanes.specs.{Sending.{GoesOn, WasSent}, Served.{ExchangedAll, ServesByLanes, faults_of, replies_around}}
+use Rattle.ptu_lanes.specs.{Sending.{GoesOn, WasSent}, Orders.{lane_sends, opened_at}, Served.{ExchangedAll, ServesByLanes, faults_of}}
 use Rattle.ptu_daemon.specs.{declared.two_host.Flags.{Flags}, Hosts.{clear, flagged_by, over, two_steps}}
 use Rattle.ptu_daemon.specs.declared.step.Step.TheVariants.{Other}
 use Rattle.ptu_daemon.specs.{Pairs.{pair, pair_by, pairs, step_at}, Telling.{InTwoSteps, ceases_in_two, is_half, told_by}}
@@ -19,7 +19,7 @@ use Rattle.ptu_daemon.specs.{Answers.{HasAnswered}, Commands.{IsSpoken, served_e
 use Rattle.ptu_daemon.specs.Served.{Said, closing_line, numbers_in, opened_as, served_by}
 use Rattle.ptu_daemon.specs.Serving.{AreServed, HasServed, IsGiven, Serves, ServesEitherWay}
 use Rattle.ptu_daemon.specs.ServingInTwo.{AnswersBelow, ArePairsBelow, AreSentBelow, AreSentInPairs, HasServedInTwo, IsSentInPairs, SendsBelow, ServesInPairs}
-use Rattle.ptu_daemon.proofs.Halves.{AreOther, AreWhole, other_around, whole_messages, whole_sends, whole_some}
+use Rattle.ptu_daemon.proofs.Halves.{AreOther, AreWhole, other_rounds, whole_messages, whole_sends, whole_some}
 
 -- ---- datagrams at which a port may cease
 
@@ -111,20 +111,20 @@ module _ {P C : Type 0} (ports : Ports P) (clocks : Clocks C) (settings : GmSett
             };
       }
 
-  answers_below : (before after : Opened P C) (flags : Flags) (said : Said) →
-      ServesByLanes (two_steps ports) clocks settings (config_of settings) (flagged_by clear before) (flagged_by flags after) (numbers_in said) →
-      AnswersBelow ports clocks settings before after flags said
-  answers_below before after flags said s = record {
+  answers_below : (before after : Opened P C) (flags : Flags) (control control' : Option (InTwoSteps P)) (said : Said) →
+      ServesByLanes (two_steps ports) clocks settings (config_of settings) (flagged_by clear before) (flagged_by flags after) control control' said.rounds (numbers_in said) →
+      AnswersBelow ports clocks (is_some control) settings before after flags said
+  answers_below before after flags control control' said s = record {
     exchanged = s.exchanged;
-    below = sent_below before.p4 after.p4 flags.p4 _ s.exchanged.sent (other_around (config_of settings) s.exchanged.early s.exchanged.shed s.exchanged.late) s.exchanged.handed;
+    below = sent_below before.p4 after.p4 flags.p4 _ s.exchanged.sent (other_rounds settings (config_of settings) (opened_at settings) s.exchanged.rounds) s.exchanged.handed;
   }
 
   -- a port below of a table was sent the pairs of the messages of its history
-  pairs_below : (before after : P) (flag : Bool) (j : ℕ)
-      (s : SendsLawfully (two_steps ports) (config_of settings) j (seen_of (two_steps ports) (over false before)) (seen_of (two_steps ports) (over flag after))) →
+  pairs_below : (told : Bool) (before after : P) (flag : Bool) (j : ℕ)
+      (s : SendsLawfully (two_steps ports) told (config_of settings) j (seen_of (two_steps ports) (over false before)) (seen_of (two_steps ports) (over flag after))) →
       ArePairsBelow ports before after flag s.messages s.sent
-  pairs_below before after flag j s =
-      let whole : AreWhole s.messages = whole_messages (config_of settings) [] s.history s.messages s.are in
+  pairs_below told before after flag j s =
+      let whole : AreWhole s.messages = whole_messages told (config_of settings) [] s.history s.messages s.are in
       record {
         all = λ still. one_paired before after flag s.messages whole (s.part.all still) (s.goes_on still);
         which = s.part.some.which;
@@ -136,23 +136,23 @@ module _ {P C : Type 0} (ports : Ports P) (clocks : Clocks C) (settings : GmSett
             (whole_some s.part.some.which s.messages whole) told.1 s.part.some.told;
       }
 
-  sends_below : (before after : Opened P C) (flags : Flags) (said : Said) →
-      ServesByLanes (two_steps ports) clocks settings (config_of settings) (flagged_by clear before) (flagged_by flags after) (numbers_in said) →
-      SendsBelow ports settings before after flags
-  sends_below before after flags said s = record {
+  sends_below : (before after : Opened P C) (flags : Flags) (control control' : Option (InTwoSteps P)) (said : Said) →
+      ServesByLanes (two_steps ports) clocks settings (config_of settings) (flagged_by clear before) (flagged_by flags after) control control' said.rounds (numbers_in said) →
+      SendsBelow ports (is_some control) settings before after flags
+  sends_below before after flags control control' said s = record {
     lawful = s.lawful;
-    p0 = pairs_below before.p0 after.p0 flags.p0 0 s.lawful.p0;
-    p1 = pairs_below before.p1 after.p1 flags.p1 1 s.lawful.p1;
-    p2 = pairs_below before.p2 after.p2 flags.p2 2 s.lawful.p2;
-    p3 = pairs_below before.p3 after.p3 flags.p3 3 s.lawful.p3;
+    p0 = pairs_below (is_some control) before.p0 after.p0 flags.p0 0 s.lawful.p0;
+    p1 = pairs_below (is_some control) before.p1 after.p1 flags.p1 1 s.lawful.p1;
+    p2 = pairs_below (is_some control) before.p2 after.p2 flags.p2 2 s.lawful.p2;
+    p3 = pairs_below (is_some control) before.p3 after.p3 flags.p3 3 s.lawful.p3;
   }
 
   below_either : (before after : Opened P C) (flags : Flags) (control control' : Option (InTwoSteps P)) (said : Said) →
       ServesEitherWay (two_steps ports) clocks settings (flagged_by clear before) (flagged_by flags after) control control' said →
-      (AnswersBelow ports clocks settings before after flags said × SendsBelow ports settings before after flags)
+      (AnswersBelow ports clocks (is_some control) settings before after flags said × SendsBelow ports (is_some control) settings before after flags)
       ⊎ ServesInPairs ports clocks settings before after control control'
   below_either before after flags control control' said (inl lanes) =
-      inl (answers_below before after flags said lanes.3, sends_below before after flags said lanes.3)
+      inl (answers_below before after flags control control' said lanes, sends_below before after flags control control' said lanes)
   below_either before after flags control control' said (inr one) =
       inr (λ given told spoke still. paired before after flags said given (one.served given told spoke still))
 
@@ -204,10 +204,10 @@ if_err_said W A B (Ok x) f h = tt
 if_err_said W A B (Err e) f h = λ is. let (said, put, served) = h is in (said, put, f said served)
 
 -- another word for what was served
-pub answered_by : {K : Type 0} (sinks : Sinks K) (sink sink' : K) (failed failed' : ℕ) (opened_at : Option Endpoint) (control_at : Option ℕ) (settings : GmSettings) (A B : Said → Type 0)
+pub answered_by : {K : Type 0} (sinks : Sinks K) (sink sink' : K) (failed failed' : ℕ) (opened_at : Option Endpoint) (control_before control_at : Option ℕ) (settings : GmSettings) (A B : Said → Type 0)
     (r : Result (Unit {0}) DaemonFault) → ((said : Said) → A said → B said)
-    → HasAnswered sinks sink sink' failed failed' opened_at control_at settings A r → HasAnswered sinks sink sink' failed failed' opened_at control_at settings B r
-answered_by sinks sink sink' failed failed' opened_at control_at settings A B r f h = record {
+    → HasAnswered sinks sink sink' failed failed' opened_at control_before control_at settings A r → HasAnswered sinks sink sink' failed failed' opened_at control_before control_at settings B r
+answered_by sinks sink sink' failed failed' opened_at control_before control_at settings A B r f h = record {
   served = on_ok_said (λ said. HasPut sinks.written sinks.handed sink sink' (closing_line said ∷ [])) A B r f h.served;
   part = if_err_said (λ said. HasPutFront sinks.written sinks.handed sink sink' (closing_line said)) A B r f h.part;
   nothing = h.nothing;

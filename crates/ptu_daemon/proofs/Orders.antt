@@ -2,7 +2,8 @@
 use Rattle.std.proofs.Common.{◌≡◌, ◌∙◌, ℕ, ◌+◌, List, [], ◌∷◌, length, take, Bool, false, Option, Some, None, IfSome, Result, Ok, Err, refl, sym, ap, subst, arith}
 use Rattle.std.specs.Prelude.{IfNone}
 use Rattle.ptu_outside.specs.declared.{arrival.Arrival.{Arrival}, clock.Clock.{Ghosts as Clocks}, failed.Failed.{Failed}, port.Port.{Ghosts as Ports}}
-use Rattle.ptu_outside.proofs.HandsOver.{not_fallen_both, not_fallen_none, rises_first}
+use Rattle.ptu_outside.specs.{HandsOver.{SentOf}, Telling.{IfTold, TellsOn, append_told}}
+use Rattle.ptu_outside.proofs.HandsOver.{not_fallen_both, not_fallen_none, rises_first, sent_none, told_none}
 use Rattle.ptu_history.specs.{Core.{history_after}, History.{Record}}
 use Rattle.ptu_grandmaster.specs.declared.status.GmStatus.{GmStatus}
 use Rattle.ptu_grandmaster.specs.declared.driving.{GmEvent.{GmEvent}, GmEvent.TheVariants.{Capacity, Class}}
@@ -15,8 +16,9 @@ use Rattle.ptu_outside.specs.Taken.{Gave, HappenedAt}
 use Rattle.ptu_daemon.specs.Events.{Happening}
 use Rattle.ptu_outside.specs.declared.tally.Tally.{Tally}
 use Rattle.ptu_daemon.specs.declared.{daemon.Daemon.{Daemon}, obeying.Obeyed.{Obeyed}}
-use Rattle.ptu_daemon.specs.Commands.{order_answers, answer_sent, ended_by, faults_at, happens_by, listed, order_with, command_reply, standing_status, waits_at}
-use Rattle.ptu_daemon.specs.Obeying.{Executed, Follows, HandledAt, Obeys, TookOrder, TookSpoken, WasAnswered, situation_at}
+use Rattle.ptu_lanes.specs.{Heard.{TookOrder, TookSpoken, WasAnswered, answer_sent}, Orders.{listed, order_with}}
+use Rattle.ptu_daemon.specs.Commands.{order_answers, ended_by, faults_at, happens_by, command_reply, standing_status, waits_at}
+use Rattle.ptu_daemon.specs.Obeying.{Executed, Follows, HandledAt, Obeys, situation_at}
 use Rattle.ptu_daemon.specs.Ran.{Does, Handled, IsSmall, Ran, Receives, arrived, five, standing_as}
 use Rattle.ptu_daemon.specs.Sends.{Standing, sends_by}
 use Rattle.ptu_daemon.proofs.Handling.{five_each, five_handled, handled_more, handled_same, hands_handled}
@@ -26,40 +28,19 @@ use Rattle.ptu_daemon.proofs.Running.{ran_as, ran_none}
 module _ {P : Type 0} (ports : Ports P) where
   -- ---- the control port
 
-  pub took_one : (old new : P) (bytes : List ℕ) (got : ℕ × ℕ) → Receives ports old new bytes (Ok (Some got)) →
-      TookSpoken ports old new (Some (arrived got.0 (take got.1 bytes)))
-  took_one old new bytes got r = record {
-    given = gives_one (ports.waiting old) (ports.waiting new) (arrived got.0 (take got.1 bytes)) r.first r.rest;
-    drained = λ still. tt;
-    failed = 0;
-    handled = receive_handled ports old new bytes (Ok (Some got)) r;
+  -- what was taken of it was received, and nothing was handed to it
+  pub spoken_handled : (old new : P) (spoken : Option Arrival) (t : TookSpoken ports old new spoken) → Handled ports [] 0 t.failed t.failed old new
+  spoken_handled old new spoken t = record {
+    within = omega arith;
+    each = omega arith;
+    some = subst (λ told. SentOf (ports.sent old) told [] 0) (sym t.unsent) (sent_none (ports.sent old));
+    all = λ still. subst (λ told. IfTold told (append_told (ports.sent old) [])) (sym t.unsent) (told_none (ports.sent old));
+    risen = t.failures.risen;
+    just = t.failures.just;
+    quiet = t.failures.quiet;
+    no_fall = t.failures.no_fall;
+    goes_on = λ none few. subst (λ told. TellsOn (ports.sent old) told) (sym t.unsent) (λ tells. tells);
   }
-
-  pub took_none : (old new : P) (bytes : List ℕ) → Receives ports old new bytes (Ok None) → TookSpoken ports old new None
-  took_none old new bytes r = record {
-    given = gives_kept (ports.waiting old) (ports.waiting new) r.left;
-    drained = λ still. left_none (ports.waiting old) (ports.waiting new) r.nothing r.left;
-    failed = 0;
-    handled = receive_handled ports old new bytes (Ok None) r;
-  }
-
-  pub took_failed : (old new : P) (bytes : List ℕ) (failed : Failed) → Receives ports old new bytes (Err failed) → TookSpoken ports old new None
-  took_failed old new bytes failed r = record {
-    given = gives_kept (ports.waiting old) (ports.waiting new) r.kept;
-    drained = λ still. absurd (still r.risen);
-    failed = 1;
-    handled = receive_handled ports old new bytes (Err failed) r;
-  }
-
-  pub order_one : (key : ℕ) (old new : P) (bytes : List ℕ) (got : ℕ × ℕ) (order : Option (Result Command Cause)) → Receives ports old new bytes (Ok (Some got)) →
-      order ≡ order_asked key (take got.1 bytes) → TookOrder ports key old new order
-  order_one key old new bytes got order r is = record { spoken = Some (arrived got.0 (take got.1 bytes)); took = took_one old new bytes got r; is = is }
-
-  pub order_none : (key : ℕ) (old new : P) (bytes : List ℕ) → Receives ports old new bytes (Ok None) → TookOrder ports key old new None
-  order_none key old new bytes r = record { spoken = None; took = took_none old new bytes r; is = refl }
-
-  pub order_failed : (key : ℕ) (old new : P) (bytes : List ℕ) (failed : Failed) → Receives ports old new bytes (Err failed) → TookOrder ports key old new None
-  order_failed key old new bytes failed r = record { spoken = None; took = took_failed old new bytes failed r; is = refl }
 
 -- ---- how it stands
 
@@ -256,13 +237,13 @@ module _ {P C : Type 0} (ports : Ports P) (clocks : Clocks C) where
         ran = r;
         stops = stops ∙ ap is_stop_order o.is;
         small = (omega (arith, none.0), omega (arith, none.1));
-        no_fall = o.took.handled.no_fall;
+        no_fall = o.took.failures.no_fall;
         sent = 0;
         failed = o.took.failed;
         missed = o.took.failed;
         answers = λ opening past stood.
             subst (λ l. Handled ports l 0 o.took.failed o.took.failed port port')
-            (ap (λ order. order_answers (situation_at (standing_as daemon.gm opening past) before tally) order r.events) o.is) o.took.handled;
+            (ap (λ order. order_answers (situation_at (standing_as daemon.gm opening past) before tally) order r.events) o.is) (spoken_handled port port' o.spoken o.took);
       }
 
   still_given : (told told' told'' : Option (List Arrival)) (arrivals : List Arrival) → told'' ≡ told' → Gave told told' arrivals → Gave told told'' arrivals
@@ -291,7 +272,7 @@ module _ {P C : Type 0} (ports : Ports P) (clocks : Clocks C) where
     ran = both.0;
     stops = f.stops ∙ ap is_stop_order o.is;
     small = f.small;
-    no_fall = not_fallen_both (ports.faults port) (ports.faults middle) (ports.faults port') o.took.handled.no_fall f.no_fall;
+    no_fall = not_fallen_both (ports.faults port) (ports.faults middle) (ports.faults port') o.took.failures.no_fall f.no_fall;
     sent = 0 + f.sent;
     failed = o.took.failed + f.failed;
     missed = o.took.failed + f.missed;
@@ -302,7 +283,7 @@ module _ {P C : Type 0} (ports : Ports P) (clocks : Clocks C) where
       both = subst (Answered before tally old new port port' obeyed (0 + f.sent) (o.took.failed + f.failed) (o.took.failed + f.missed)) o.is (
         f.ran,
         λ opening past stood.
-            handled_more ports port middle port' [] _ 0 o.took.failed o.took.failed f.sent f.failed f.missed o.took.handled (f.answers opening past stood),
+            handled_more ports port middle port' [] _ 0 o.took.failed o.took.failed f.sent f.failed f.missed (spoken_handled port middle o.spoken o.took) (f.answers opening past stood),
       )
 
   -- there is no control port

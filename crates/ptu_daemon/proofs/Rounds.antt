@@ -13,7 +13,8 @@ use Rattle.ptu_outside.specs.{Rounds.{in_rounds, left_after, taken_in}, Taken.{G
 use Rattle.ptu_outside.proofs.Taken.{event_of-push, general_of-push, have_taken-none, have_taken-push}
 use Rattle.ptu_outside.specs.declared.tally.Tally.{Tally}
 use Rattle.ptu_daemon.specs.declared.{daemon.Daemon.{Daemon}, obeying.Obeyed.{Obeyed}}
-use Rattle.ptu_daemon.specs.Commands.{AreAll, AreCounted, AreRoundsOf, AreSpoken, DoneRound, order_answers, answers_from, done_events, faults_at, happens_by, happens_from, is_last, listed, many_from, order_in, round_of, rounds_of, spoken_of, waits_at}
+use Rattle.ptu_lanes.specs.Orders.{listed, order_in}
+use Rattle.ptu_daemon.specs.Commands.{AreAll, AreCounted, AreRoundsOf, AreSpoken, DoneRound, order_answers, answers_from, done_events, faults_at, happens_by, happens_from, is_last, many_from, round_of, rounds_of, spoken_of, waits_at}
 use Rattle.ptu_daemon.specs.Events.{Given, change_in, round_given, round_with, taking, turns}
 use Rattle.ptu_daemon.specs.Obeying.{DidAll, DidRounds, DidWhole, HandledAt, Waits}
 use Rattle.ptu_daemon.specs.{Ran.{DidRound, IsSmall, Ran, TookChannel, five, standing_as}, Sends.{Standing, after_all, sends_by}}

@@ -6,7 +6,8 @@ use Rattle.ptu_config.specs.declared.settings.GmSettings.{GmSettings}
 use Rattle.ptu_outside.specs.declared.{arrival.Arrival.{Arrival}, port.Port.{Ghosts as Ports}}
 use Rattle.ptu_outside.specs.{Departure.{Departure}, Taken.{Gave, HappenedAt}}
 use Rattle.ptu_grandmaster.specs.declared.driving.GmEvent.{GmEvent}
-use Rattle.ptu_daemon.specs.Commands.{AreAll, AreSpoken, DoneRound, HaveHappened, WasHandedAt, happens_by, listed, order_in, rounds_until, spoken_of, waits_at}
+use Rattle.ptu_lanes.specs.Orders.{listed, order_in}
+use Rattle.ptu_daemon.specs.Commands.{AreAll, AreSpoken, DoneRound, HaveHappened, WasHandedAt, happens_by, rounds_until, spoken_of, waits_at}
 use Rattle.ptu_daemon.specs.Serving.{AreUnspoken}
 use Rattle.ptu_daemon.proofs.Commands.{rounds_are}
 

@@ -1,31 +1,22 @@
 -- What a grandmaster is told while it is served, and what it answers (the project's own choice).
-use Rattle.std.specs.Prelude.{◌≡◌, ◌≤◌, ℕ, suc, zero, ◌+◌, ◌*◌, Bool, true, false, if◌then◌else◌, List, [], ◌∷◌, ◌++◌, length, map, flat_map, Option, Some, None, Result, Ok, Err, IsSome, slice_get, unwrap_or}
+use Rattle.std.specs.Prelude.{◌≡◌, ◌≤◌, ℕ, suc, zero, ◌+◌, ◌*◌, Bool, true, false, if◌then◌else◌, List, [], ◌∷◌, ◌++◌, length, map, flat_map, Option, Some, None, Result, Ok, Err, IsSome, slice_get}
 use Rattle.std.specs.List.{AllByRecursion}
 use Rattle.ptu_outside.specs.{declared.arrival.Arrival.{Arrival}, declared.port.Port.{Ghosts as Ports}, Departure.{Departure}, Faults.{HasRisen}}
-use Rattle.ptu_outside.specs.declared.channel.Channel.TheVariants as channels
 use Rattle.ptu_units.specs.Counts.{counted}
 use Rattle.ptu_units.specs.declared.kind.Kind.TheVariants.{Announce, Sync, DelayResp}
 use Rattle.ptu_history.specs.{Core.{book_step_moment}, Counts.{counts}, History.{capacity_in_force}}
 use Rattle.ptu_grandmaster.specs.{declared.driving.GmEvent.{GmEvent}, Status.{live_of_kind, live_rates}}
 use Rattle.ptu_grandmaster.specs.declared.driving.GmEvent.TheVariants as events
 use Rattle.ptu_config.specs.{declared.settings.GmSettings.{GmSettings}, Rounds.{all_rounds}}
-use Rattle.ptu_config.specs.{Answers.{reply_text}, Commands.{order_asked, is_stop_order}}
+use Rattle.ptu_config.specs.Commands.{is_stop_order}
 use Rattle.ptu_config.specs.declared.{answer.Reply.{Reply}, answer.Status.{Status}, command.Cause.{Cause}, command.Command.{Command}}
 use Rattle.ptu_config.specs.declared.answer.Reply.TheVariants.{Done as IsDone, Shed, Stands, Bad}
 use Rattle.ptu_config.specs.declared.command.Command.TheVariants as commands
 use Rattle.ptu_outside.specs.{Handed.{WasHanded}, Rounds.{in_rounds, timed}, Taken.{HappenedAt, Round}}
+use Rattle.ptu_lanes.specs.{Heard.{answer_sent}, Orders.{AreAllBy, listed, order_in}}
 use Rattle.ptu_daemon.specs.{Events.{Given, Happening, round_given, round_with}, Sends.{Standing, after_all, sends_by}}
 
 -- ---- what is asked for
-
--- what is asked for by what was taken of a control port with this key
-abbrev pub order_with : ℕ → Option Arrival → Option (Result Command Cause)
-order_with key None = None
-order_with key (Some arrival) = order_asked key arrival.bytes
-
--- in a round that took this of the control port; where there is one, the settings have its key
-abbrev pub order_in : GmSettings → Option Arrival → Option (Result Command Cause)
-order_in settings spoken = order_with (unwrap_or settings.control_key 0) spoken
 
 -- what happens by a stop: where it cancels all grants, no capacity is in force any more
 abbrev pub ended_by : Bool → List Happening
@@ -74,10 +65,6 @@ command_reply s (commands.Capacity capacity) obeyed = Shed (length (sends_by s.g
 command_reply s commands.Status obeyed = Stands (standing_status s)
 command_reply s (commands.Stop cancels) obeyed = IsDone
 
--- an answer goes to this machine itself, as a general message
-abbrev pub answer_sent : Reply → Departure
-answer_sent reply = record { ip = 0x7F000001; channel = channels.General; bytes = reply_text reply }
-
 -- what is answered to an order, and nothing where there is none
 abbrev pub order_answers : Situation → Option (Result Command Cause) → List GmEvent → List Departure
 order_answers s None obeyed = []
@@ -108,10 +95,6 @@ done_events [] = []
 done_events (d ∷ later) = events_in d ++ done_events later
 
 -- what was taken of the control port
-abbrev pub listed : Option Arrival → List Arrival
-listed None = []
-listed (Some arrival) = arrival ∷ []
-
 unfoldable pub spoken_of : List DoneRound → List Arrival
 spoken_of [] = []
 spoken_of (d ∷ later) = listed d.spoken ++ spoken_of later
@@ -136,16 +119,9 @@ HaveHappened settings before (d ∷ later) =
 abbrev pub is_last : GmSettings → DoneRound → Bool
 is_last settings d = is_stop_order (order_in settings d.spoken)
 
--- behind a round that is the last one there is none, and behind another one it goes on so
-abbrev pub EndsOr : Bool → List DoneRound → Type 0 → Type 0
-EndsOr true later more = later ≡ []
-EndsOr false later more = more
-
--- a round that is told to be the last one is the last, and where none is told so, so many are done
+-- all of so many rounds, or less where one is told to be the last
 abbrev pub AreAll : GmSettings → ℕ → List DoneRound → Type 0
-AreAll settings count [] = count ≡ 0
-AreAll settings zero (d ∷ later) = ⊥
-AreAll settings (suc count) (d ∷ later) = EndsOr (is_last settings d) later (AreAll settings count later)
+AreAll settings count done = AreAllBy (is_last settings) count done
 
 -- ---- all answers
 

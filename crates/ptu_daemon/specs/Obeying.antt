@@ -12,7 +12,8 @@ use Rattle.ptu_outside.specs.Rounds.{in_rounds, left_after}
 use Rattle.ptu_outside.specs.Taken.{Gave, HaveTaken, event_of, general_of}
 use Rattle.ptu_outside.specs.declared.tally.Tally.{Tally}
 use Rattle.ptu_daemon.specs.declared.{daemon.Daemon.{Daemon}, obeying.Obeyed.{Obeyed}}
-use Rattle.ptu_daemon.specs.Commands.{AreAll, AreCounted, AreRoundsOf, AreSpoken, DoneRound, HaveHappened, Situation, order_answers, answer_sent, answers_from, done_events, happens_by, happens_from, is_last, listed, order_with, faults_at, command_reply, round_of, rounds_of, spoken_of, waits_at}
+use Rattle.ptu_lanes.specs.{Heard.{answer_sent}, Orders.{listed, order_with}}
+use Rattle.ptu_daemon.specs.Commands.{AreAll, AreCounted, AreRoundsOf, AreSpoken, DoneRound, HaveHappened, Situation, order_answers, answers_from, done_events, happens_by, happens_from, is_last, faults_at, command_reply, round_of, rounds_of, spoken_of, waits_at}
 use Rattle.ptu_daemon.specs.{Events.{Given}, Sends.{Standing}}
 use Rattle.ptu_daemon.specs.Ran.{DidRound, Handled, IsSmall, Ran, standing_as}
 
@@ -23,25 +24,6 @@ abbrev pub HandledAt : {P : Type 0} → Ports P → List Departure → ℕ → �
 HandledAt ports sends sent failed missed None None = (sends ≡ []) × (sent ≡ 0) × (failed ≡ 0) × (missed ≡ 0)
 HandledAt ports sends sent failed missed (Some old) (Some new) = Handled ports sends sent failed missed old new
 HandledAt ports sends sent failed missed _ _ = ⊥
-
--- this was taken of it: the first that waited, or nothing where none did or the receive failed
-pub record TookSpoken {P : Type 0} (ports : Ports P) (old new : P) (spoken : Option Arrival) : Type 0 where
-  pub given : Gave (ports.waiting old) (ports.waiting new) (listed spoken)
-  pub drained : ¬ HasRisen (ports.faults old) (ports.faults new) → IfNone spoken (IfSome (ports.waiting new) (λ left. left ≡ []))
-  pub failed : ℕ
-  pub handled : Handled ports [] 0 failed failed old new
-
--- this order was taken of it, where the key is this
-pub record TookOrder {P : Type 0} (ports : Ports P) (key : ℕ) (old new : P) (order : Option (Result Command Cause)) : Type 0 where
-  pub spoken : Option Arrival
-  pub took : TookSpoken ports old new spoken
-  pub is : order ≡ order_with key spoken
-
--- the answer was handed to it
-pub record WasAnswered {P : Type 0} (ports : Ports P) (old new : P) (reply : Reply) : Type 0 where
-  pub sent : ℕ
-  pub failed : ℕ
-  pub hands : HandsOver ports old new (answer_sent reply ∷ []) sent failed
 
 -- ---- a command
 

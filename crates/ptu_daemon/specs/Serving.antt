@@ -118,11 +118,9 @@ pub record Serves {P C : Type 0} (ports : Ports P) (clocks : Clocks C) (settings
   pub c5 : closed.c5 ≡ opened.c5
 
 -- likewise: lanes served it, or where a lane is refused its thread, it is served on one thread, as where there are no lanes
--- which is so too where there is a control port
 abbrev pub ServesEitherWay : {P C : Type 0} → Ports P → Clocks C → GmSettings → Opened P C → Opened P C → Option P → Option P → Said → Type 0
 ServesEitherWay ports clocks settings opened closed control control' said =
-    ((said.rounds ≡ all_rounds settings) × (control ≡ None) × (control' ≡ None)
-    × ServesByLanes ports clocks settings (config_of settings) opened closed (numbers_in said))
+    ServesByLanes ports clocks settings (config_of settings) opened closed control control' said.rounds (numbers_in said)
     ⊎ Serves ports clocks settings opened closed control control' said
 
 -- the control port is opened where the settings name one, as its host tells it

@@ -1,10 +1,10 @@
 -- What a call that serves in two steps has done with the ports and clocks of the host below.
-use Rattle.std.specs.Prelude.{◌≡◌, ◌⊎◌, ◌≤◌, ℕ, Bool, false, List, length, Option, Some, IsSome, option_map}
+use Rattle.std.specs.Prelude.{◌≡◌, ◌⊎◌, ◌≤◌, ℕ, Bool, false, List, length, Option, Some, is_some, IsSome, option_map}
 use Rattle.std.specs.List.{AllByRecursion, items_where_true}
 use Rattle.ptu_outside.specs.declared.{clock.Clock.{Ghosts as Clocks}, opened.Opened.{Opened}}
 use Rattle.ptu_outside.specs.{declared.port.Port.{Ghosts as Ports}, Departure.{Departure}, Telling.{append_told}}
 use Rattle.ptu_outside.specs.{Faults.{HasRisen}, HandsOver.{SentOf}}
-use Rattle.ptu_lanes.specs.Served.{ExchangedAll, TablesSentLawfully, faults_of, replies_around, seen_at}
+use Rattle.ptu_lanes.specs.{Orders.{lane_sends, opened_at}, Served.{ExchangedAll, TablesSentLawfully, faults_of, seen_at}}
 use Rattle.ptu_config.specs.declared.settings.GmSettings.{GmSettings}
 use Rattle.ptu_outside.specs.Ports.{HaveNotRisen}
 use Rattle.ptu_daemon.specs.{declared.two_host.Flags.{Flags}, Hosts.{clear, flagged_by, over, two_steps}}
@@ -43,11 +43,11 @@ pub record AreSentBelow {P : Type 0} (ports : Ports P) (before after : P) (flag 
       AllByRecursion (λ d. ports.ceases_at d ≡ false) datagrams → ports.sent after ≡ append_told (ports.sent before) datagrams
   pub some : IsSome (told_by flag (ports.sent after)) → SentOf (ports.sent before) (ports.sent after) datagrams sent
 
--- by lanes: over port 4 in two steps the lane that takes Signaling did this, and the port below was sent its replies and CANCELs
-pub record AnswersBelow {P C : Type 0} (ports : Ports P) (clocks : Clocks C) (settings : GmSettings) (before after : Opened P C) (flags : Flags) (said : Said) : Type 0 where
-  pub exchanged : ExchangedAll (two_steps ports) clocks settings (config_of settings) (over false before.p4) (over flags.p4 after.p4) before.c0 after.c0
+-- by lanes, where orders may come or not: over port 4 in two steps the lane that takes Signaling did this, and the port below was sent its replies and CANCELs
+pub record AnswersBelow {P C : Type 0} (ports : Ports P) (clocks : Clocks C) (told : Bool) (settings : GmSettings) (before after : Opened P C) (flags : Flags) (said : Said) : Type 0 where
+  pub exchanged : ExchangedAll (two_steps ports) clocks told settings (config_of settings) (over false before.p4) (over flags.p4 after.p4) before.c0 after.c0
       said.granted said.refused
-  pub below : AreSentBelow ports before.p4 after.p4 flags.p4 (replies_around (config_of settings) exchanged.early exchanged.shed exchanged.late)
+  pub below : AreSentBelow ports before.p4 after.p4 flags.p4 (lane_sends settings (config_of settings) (opened_at settings) exchanged.rounds)
       exchanged.sent
 
 -- a port below was sent the pairs of so many of these, which are no halves: of all, where its count did not rise, it told a whole list
@@ -62,8 +62,8 @@ pub record ArePairsBelow {P : Type 0} (ports : Ports P) (before after : P) (flag
 
 -- by lanes: over the ports of the tables in two steps what each was sent are messages of a history of its table, and the port below was
 -- sent the pairs of these
-pub record SendsBelow {P C : Type 0} (ports : Ports P) (settings : GmSettings) (before after : Opened P C) (flags : Flags) : Type 0 where
-  pub lawful : TablesSentLawfully (two_steps ports) (config_of settings) (seen_at (two_steps ports) (flagged_by clear before)) (flagged_by flags after)
+pub record SendsBelow {P C : Type 0} (ports : Ports P) (told : Bool) (settings : GmSettings) (before after : Opened P C) (flags : Flags) : Type 0 where
+  pub lawful : TablesSentLawfully (two_steps ports) told (config_of settings) (seen_at (two_steps ports) (flagged_by clear before)) (flagged_by flags after)
   pub p0 : ArePairsBelow ports before.p0 after.p0 flags.p0 lawful.p0.messages lawful.p0.sent
   pub p1 : ArePairsBelow ports before.p1 after.p1 flags.p1 lawful.p1.messages lawful.p1.sent
   pub p2 : ArePairsBelow ports before.p2 after.p2 flags.p2 lawful.p2.messages lawful.p2.sent
@@ -83,5 +83,5 @@ pub record HasServedInTwo {P C : Type 0} (ports : Ports P) (clocks : Clocks C) (
       ServesInPairs ports clocks settings before after served.control served.control'
   -- by lanes, or on one thread where a lane is refused its thread
   pub by_lanes : 1 ≤ settings.senders → (before after : Opened P C) → opening ≡ Some before → back ≡ Some after →
-      (AnswersBelow ports clocks settings before after flags said × SendsBelow ports settings before after flags)
+      (AnswersBelow ports clocks (is_some served.control) settings before after flags said × SendsBelow ports (is_some served.control) settings before after flags)
       ⊎ ServesInPairs ports clocks settings before after served.control served.control'

@@ -7,8 +7,8 @@ ghost use Rattle.ptu_config.specs.Commands.{is_known, request_line};
 ghost use Rattle.ptu_config.specs.declared.settings.GmSettings.{GmSettings};
 ghost use Rattle.ptu_config.specs.declared.command.Command.{Command};
 ghost use Rattle.ptu_daemon.specs.Asked.{AsksNothing, CommandNothing};
-ghost use Rattle.ptu_daemon.specs.Commands.{DoneRound, HaveHappened};
-ghost use Rattle.ptu_daemon.specs.Commands.{done_events, order_in, order_with};
+ghost use Rattle.ptu_lanes.specs.Orders.{order_in, order_with};
+ghost use Rattle.ptu_daemon.specs.Commands.{DoneRound, HaveHappened, done_events};
 ghost use Rattle.ptu_daemon.specs.{Lawful.{history_by}, Served.{held_by}, Serving.{AreUnspoken}};
 
 /// A datagram of the control port that is no line of plain text, or does not begin with the key,

@@ -160,6 +160,7 @@ fn open_control<H: Host>(
     ensures opened { IfOk result (λ control. IfSome control (λ port.
         IfSome (H.control host.old) (λ told. port ≡ told))) }
     ensures at { OnOk result (IfSome number (λ n. IfTold (H.control_at host.new) (Some n))) }
+    ensures unasked { IfNone number (H.control_at host.new ≡ H.control_at host.old) }
     ensures back { H.back host.new ≡ H.back host.old }
     ensures opened_at { H.opened_at host.new ≡ H.opened_at host.old }
     ensures risen { OnErr result (HasRisen (H.faults host.old) (H.faults host.new)) }
@@ -216,7 +217,7 @@ pub fn serve_within<W: Threads + Wait + Sync, H: Host, K: Sink>(
     requires range { IsGmInRange settings.now }
     // What was served and written; the host was opened at the settings' address and ports.
     ensures answer { HasAnswered K.Sink sink.old sink.new (H.faults host.old) (H.faults host.new)
-        (H.opened_at host.new) (H.control_at host.new) settings.now
+        (H.opened_at host.new) (H.control_at host.old) (H.control_at host.new) settings.now
         (λ said. HasServed H.P.Port H.C.Clock settings.now (H.opening host.old) (H.back host.new)
         (H.control host.old) (H.control_back host.new) said) result }
     // It stands on what it stood on.
@@ -274,7 +275,7 @@ pub fn serve<W: Threads + Wait + Sync, H: Host, K: Sink>(
     requires range { IsGmInRange settings.now }
     // What was served and written; the host was opened at the settings' address and ports.
     ensures answer { HasAnswered K.Sink sink.old sink.new (H.faults host.old) (H.faults host.new)
-        (H.opened_at host.new) (H.control_at host.new) settings.now
+        (H.opened_at host.new) (H.control_at host.old) (H.control_at host.new) settings.now
         (λ said. HasServed H.P.Port H.C.Clock settings.now (H.opening host.old) (H.back host.new)
         (H.control host.old) (H.control_back host.new) said) result }
     // It stands on what it stood on.

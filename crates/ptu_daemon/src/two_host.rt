@@ -92,6 +92,7 @@ impl<H: Host> Host for TwoHost<'_, H> {
         ensures no_fall { HasNotFallen (H.faults self.old.host.now) (H.faults self.new.host.now) }
         ensures control { option_map (over false) (H.control self.new.host.now)
             ≡ option_map (over false) (H.control self.old.host.now) }
+        ensures control_at { H.control_at self.new.host.now ≡ H.control_at self.old.host.now }
         ensures name { self.new.host.ghost_name ≡ self.old.host.ghost_name }
     {
         let below = self.host.open(ip, event_port, general_port)?;

@@ -28,7 +28,7 @@ pub fn serve_in_two_steps<W: Threads + Wait + Sync, H: Host, K: Sink>(
 ) -> Result<(), DaemonFault>
     requires range { IsGmInRange settings.now }
     ensures answer { HasAnswered K.Sink sink.old sink.new (H.faults host.old) (H.faults host.new)
-        (H.opened_at host.new) (H.control_at host.new) settings.now
+        (H.opened_at host.new) (H.control_at host.old) (H.control_at host.new) settings.now
         (λ said. HasServedInTwo H.P.Port H.C.Clock settings.now (H.opening host.old)
         (H.back host.new) (H.control host.old) (H.control_back host.new) said) result }
 {

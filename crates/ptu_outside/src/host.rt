@@ -59,6 +59,7 @@ pub trait Host {
         ensures quiet { OnOk result (faults self.new ≡ faults self.old) }
         ensures no_fall { HasNotFallen (faults self.old) (faults self.new) }
         ensures control { control self.new ≡ control self.old }
+        ensures control_at { control_at self.new ≡ control_at self.old }
         ensures name { name self.new ≡ name self.old };
 
     /// Takes ports and clocks back.

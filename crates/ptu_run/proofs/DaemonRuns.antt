@@ -11,7 +11,7 @@ use Rattle.ptu_outside.specs.declared.fault.DaemonFault.{DaemonFault}
 use Rattle.ptu_outside.specs.declared.fault.DaemonFault.TheVariants.{Open, Write, OutOfMemory}
 use Rattle.ptu_outside.specs.Opening.{OpenedAt}
 use Rattle.ptu_config.specs.declared.settings.GmSettings.{GmSettings}
-use Rattle.ptu_daemon.specs.{Answers.{HasAnswered, SpokenAt}, Events.{endpoint_of}, Served.{Said}}
+use Rattle.ptu_daemon.specs.{Answers.{HasAnswered, IsAskedFor}, Events.{endpoint_of}, Served.{Said}}
 use Rattle.ptu_slave_daemon.specs.Answers.{CountsOpen, CountsWrite}
 use Rattle.ptu_run.specs.Answers.{AreFaultsAnswered, HasEnded}
 use Rattle.ptu_run.proofs.Answered.{answered_risen, answered_still}
@@ -46,14 +46,14 @@ no_audit_of_refused status (inr (inl is)) e = omega (arith, is, e)
 no_audit_of_refused status (inr (inr is)) e = omega (arith, is, e)
 
 -- the counts of faults of the host and the sink, by what the daemon of a grandmaster answers
-module _ {K : Type 0} (sinks : Sinks K) (sink sink' : K) (failed failed' : ℕ) (opened_at : Option Endpoint) (control_at : Option ℕ) (settings : GmSettings) (IsServed : Said → Type 0) where
-  pub opens_counted : (r : Result (Unit {0}) DaemonFault) → HasAnswered sinks sink sink' failed failed' opened_at control_at settings IsServed r → CountsOpen r failed failed'
+module _ {K : Type 0} (sinks : Sinks K) (sink sink' : K) (failed failed' : ℕ) (opened_at : Option Endpoint) (control_before control_at : Option ℕ) (settings : GmSettings) (IsServed : Said → Type 0) where
+  pub opens_counted : (r : Result (Unit {0}) DaemonFault) → HasAnswered sinks sink sink' failed failed' opened_at control_before control_at settings IsServed r → CountsOpen r failed failed'
   opens_counted (Ok x) h = h.opens
   opens_counted (Err Open) h = h.unopened refl
   opens_counted (Err Write) h = h.host_still (λ never. cc)
   opens_counted (Err OutOfMemory) h = h.host_still (λ never. cc)
 
-  pub writes_counted : (r : Result (Unit {0}) DaemonFault) → HasAnswered sinks sink sink' failed failed' opened_at control_at settings IsServed r
+  pub writes_counted : (r : Result (Unit {0}) DaemonFault) → HasAnswered sinks sink sink' failed failed' opened_at control_before control_at settings IsServed r
       → CountsWrite r (sinks.faults sink) (sinks.faults sink')
   writes_counted (Ok x) h = h.still
   writes_counted (Err Open) h = ap sinks.faults (h.nothing (λ never. cc))
@@ -146,16 +146,16 @@ pub opened_as : (r s : Result (Unit {0}) DaemonFault) (told : Option Endpoint) (
 opened_as r s told endpoint at e = subst (λ r. OpenedAt r told endpoint) e at
 
 -- likewise of a grandmaster's daemon, and its control port
-pub served_on_ok : (X : Type 0) (r : Result (Unit {0}) DaemonFault) (told : Option Endpoint) (control_at : Option ℕ) (settings : GmSettings) →
-    OpenedAt r told (endpoint_of settings) → IfSome settings.control_port (λ number. SpokenAt r control_at number) → OnOk r X → OnOk r (ServesAt told control_at settings × X)
-served_on_ok X (Ok x) told control_at settings at spoken h = ((at, spoken), h)
-served_on_ok X (Err fault) told control_at settings at spoken h = tt
+pub served_on_ok : (X : Type 0) (r : Result (Unit {0}) DaemonFault) (told : Option Endpoint) (before control_at : Option ℕ) (settings : GmSettings) →
+    OpenedAt r told (endpoint_of settings) → IsAskedFor settings.control_port r before control_at → OnOk r X → OnOk r (ServesAt told before control_at settings × X)
+served_on_ok X (Ok x) told before control_at settings at spoken h = ((at, spoken), h)
+served_on_ok X (Err fault) told before control_at settings at spoken h = tt
 
-pub served_as : (r s : Result (Unit {0}) DaemonFault) (told : Option Endpoint) (control_at : Option ℕ) (settings : GmSettings) →
-    OpenedAt r told (endpoint_of settings) → IfSome settings.control_port (λ number. SpokenAt r control_at number) → r ≡ s →
-    OpenedAt s told (endpoint_of settings) × IfSome settings.control_port (λ number. SpokenAt s control_at number)
-served_as r s told control_at settings at spoken e =
-    subst (λ r. OpenedAt r told (endpoint_of settings) × IfSome settings.control_port (λ number. SpokenAt r control_at number)) e (at, spoken)
+pub served_as : (r s : Result (Unit {0}) DaemonFault) (told : Option Endpoint) (before control_at : Option ℕ) (settings : GmSettings) →
+    OpenedAt r told (endpoint_of settings) → IsAskedFor settings.control_port r before control_at → r ≡ s →
+    OpenedAt s told (endpoint_of settings) × IsAskedFor settings.control_port s before control_at
+served_as r s told before control_at settings at spoken e =
+    subst (λ r. OpenedAt r told (endpoint_of settings) × IsAskedFor settings.control_port r before control_at) e (at, spoken)
 
 -- what its status says that it answers
 fault_at : (fault : DaemonFault) (r : Result (Unit {0}) DaemonFault) → status_of_daemon r ≡ status_of_daemon {A = Unit {0}} (Err fault) → r ≡ Err fault

@@ -79,28 +79,32 @@ pub record IsServed {P C : Type 0} (ports : Ports P) (clocks : Clocks C) (openin
   pub as_they_are : settings.two_step ≡ false → HasServed ports clocks settings opening back speaking spoken said
   pub in_two_steps : settings.two_step ≡ true → HasServedInTwo ports clocks settings opening back speaking spoken said
 
+-- the control port of this number was opened, where the settings name one, and none was asked for where they name none
+abbrev pub SpeaksAt : Option ℕ → Option ℕ → Option ℕ → Type 0
+SpeaksAt port before told = IfNone port (told ≡ before) × IfSome port (λ number. IfTold told (Some number))
+
 -- the host was opened at the address and the port numbers of these settings, and its control port, where they name one, at that
-abbrev pub ServesAt : Option Endpoint → Option ℕ → GmSettings → Type 0
-ServesAt opened_at control_at settings =
-    IfTold opened_at (Some (endpoint_of settings)) × IfSome settings.control_port (λ number. IfTold control_at (Some number))
+abbrev pub ServesAt : Option Endpoint → Option ℕ → Option ℕ → GmSettings → Type 0
+ServesAt opened_at control_before control_at settings =
+    IfTold opened_at (Some (endpoint_of settings)) × SpeaksAt settings.control_port control_before control_at
 
 module _ {K P C : Type 0} (ports : Ports P) (clocks : Clocks C) (written : K → Option (List ℕ)) (handed : K → Option (List (List ℕ)))
-    (old new : K) (opening back : Option (Opened P C)) (speaking spoken : Option P) (opened_at : Option Endpoint) (control_at : Option ℕ) where
+    (old new : K) (opening back : Option (Opened P C)) (speaking spoken : Option P) (opened_at : Option Endpoint) (control_before control_at : Option ℕ) where
   -- a grandmaster of these settings was served, and the one line with its numbers was written
   abbrev pub ServedWhole : GmSettings → Type 0
-  ServedWhole settings = ServesAt opened_at control_at settings × ((said : Said) × HasPut written handed old new (closing_line said ∷ [])
+  ServedWhole settings = ServesAt opened_at control_before control_at settings × ((said : Said) × HasPut written handed old new (closing_line said ∷ [])
       × IsServed ports clocks opening back speaking spoken settings said)
 
   -- the line was not written whole
   abbrev pub ServedInPart : GmSettings → Type 0
-  ServedInPart settings = ServesAt opened_at control_at settings × ((said : Said) × HasPutFront written handed old new (closing_line said)
+  ServedInPart settings = ServesAt opened_at control_before control_at settings × ((said : Said) × HasPutFront written handed old new (closing_line said)
       × IsServed ports clocks opening back speaking spoken settings said)
 
   -- a run with the word `serve` ended with this status
   abbrev pub HasRunServe : {H : Type 0} → Option (List ℕ) → Option (List ℕ) → H → H → ℕ → Type 0
   HasRunServe left left' host host' status =
       HasRunDaemon gm_entries gm_refusal left left' written handed old new host host' ServedWhole ServedInPart
-      (λ settings. ServesAt opened_at control_at settings × (new ≡ old)) status
+      (λ settings. ServesAt opened_at control_before control_at settings × (new ≡ old)) status
 
 -- ---- the word `slave`
 

@@ -50,7 +50,7 @@ fn serve_by<W: Threads + Wait + Sync, H: Host, K: Sink>(
 ) -> Result<(), DaemonFault>
     requires range { IsGmInRange settings.now }
     ensures answer { HasAnswered K.Sink sink.old sink.new (H.faults host.old) (H.faults host.new)
-        (H.opened_at host.new) (H.control_at host.new) settings.now
+        (H.opened_at host.new) (H.control_at host.old) (H.control_at host.new) settings.now
         (λ said. IsServed H.P.Port H.C.Clock (H.opening host.old) (H.back host.new)
         (H.control host.old) (H.control_back host.new) settings.now said) result }
 {
@@ -72,7 +72,7 @@ pub(crate) fn run_serve<W: Threads + Wait + Sync, S: Source, K: Sink, H: Host>(
 ) -> u8
     ensures served { HasRunServe H.P.Port H.C.Clock K.written K.handed sink.old sink.new
         (H.opening host.old) (H.back host.new) (H.control host.old) (H.control_back host.new)
-        (H.opened_at host.new) (H.control_at host.new)
+        (H.opened_at host.new) (H.control_at host.old) (H.control_at host.new)
         (S.left source.old) (S.left source.new) host.old host.new result }
     ensures ended { HasEnded result (S.faults source.old) (S.faults source.new)
         (K.faults sink.old) (K.faults sink.new) (H.faults host.old) (H.faults host.new) }

@@ -51,8 +51,9 @@ fn run_command<W: AllocGlobal + Threads + Wait + Sync, S: Source, K: Sink, H: Ho
         → (capacity : ℕ) × (command ≡ Command.Audit capacity) }
     ensures served { command ≡ Command.Serve → HasRunServe H.P.Port H.C.Clock K.written K.handed
         sink.old sink.new (H.opening host.old) (H.back host.new) (H.control host.old)
-        (H.control_back host.new) (H.opened_at host.new) (H.control_at host.new)
-        (S.left source.old) (S.left source.new) host.old host.new result }
+        (H.control_back host.new) (H.opened_at host.new) (H.control_at host.old)
+        (H.control_at host.new) (S.left source.old) (S.left source.new) host.old host.new
+        result }
     ensures followed { command ≡ Command.Slave → HasRunSlave H.P.Port H.C.Clock K.written K.handed
         sink.old sink.new (H.opening host.old) (H.back host.new) (H.opened_at host.new)
         (length stock.flags.items) (length stock.gaps.items)
@@ -155,7 +156,7 @@ pub fn run<W: AllocGlobal + Threads + Wait + Sync, S: Source, K: Sink, H: Host>(
     ensures served { words_command_of (map (λ w. w.now) words.now) ≡ Some Command.Serve
         → HasRunServe H.P.Port H.C.Clock K.written K.handed sink.old sink.new
         (H.opening host.old) (H.back host.new) (H.control host.old) (H.control_back host.new)
-        (H.opened_at host.new) (H.control_at host.new)
+        (H.opened_at host.new) (H.control_at host.old) (H.control_at host.new)
         (S.left source.old) (S.left source.new) host.old host.new result }
     // The word `slave`: likewise, with as many judges as the stock has.
     ensures followed { words_command_of (map (λ w. w.now) words.now) ≡ Some Command.Slave

@@ -7,7 +7,7 @@ returns g c =
     let same = sym c.new-two.ensures.same ∙ sym c.serve.ensures.name in
     record {
       answer =
-          answered_by g.K.Sink c.args.sink.now c.serve.new.sink _ _ _ _ c.args.settings.now _ _ c.serve.result
+          answered_by g.K.Sink c.args.sink.now c.serve.new.sink _ _ _ _ _ c.args.settings.now _ _ c.serve.result
           (λ said. in_two _ _ c.args.settings.now _ _ _ _ c.serve.new.host.flags c.serve.new.host.is_control_flagged said)
           (rw (c.host-1.given.1 same, ← c.new-two.ensures.host) c.serve.ensures.answer);
     }
