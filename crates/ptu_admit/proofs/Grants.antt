@@ -23,7 +23,7 @@ use Rattle.ptu_admit.specs.{Lent.{Lent, is_elsewhere, rates_elsewhere}, Newest.{
 use Rattle.ptu_admit.specs.{Rows.{kept_rate, live_rows}, Tables.{IsSwept}}
 use Rattle.ptu_admit.proofs.Sums.{Contains-from_map, Contains-map, IsMapped, distinct_grants, rate, rate_sum-within, share_of-grants, share_of-permuted, share_of-without}
 
-apart_filter : (p : Grant → Bool) (history : List Record) (x : ℕ) → Apart Differ (filter p (live_grants history x))
+pub apart_filter : (p : Grant → Bool) (history : List Record) (x : ℕ) → Apart Differ (filter p (live_grants history x))
 apart_filter p history x = Apart-from_pairs Differ (filter p (live_grants history x)) (AllPairs-filter Differ p (live_grants history x) (live_distinct history x))
 
 apart_twice : (p q : Grant → Bool) (history : List Record) (x : ℕ) → Apart Differ (filter q (filter p (live_grants history x)))
@@ -31,10 +31,12 @@ apart_twice p q history x =
     Apart-from_pairs Differ (filter q (filter p (live_grants history x)))
     (AllPairs-filter Differ q (filter p (live_grants history x)) (AllPairs-filter Differ p (live_grants history x) (live_distinct history x)))
 
-abbrev in_table : ℕ → Grant → Bool
+-- the grant's client belongs to the table
+abbrev pub in_table : ℕ → Grant → Bool
 in_table j g = eqb (table_of g.client) j
 
-abbrev is_live_row : ℕ → Row → Bool
+-- the row is live at the moment
+abbrev pub is_live_row : ℕ → Row → Bool
 is_live_row x row = ltb x row.lease.until
 
 -- a grant is its five parts
@@ -69,16 +71,31 @@ module _ (book j : ℕ) (xs : List Row) (moment : ℕ) (history : List Record) (
             is = same_grant (grant_of p.row) g has.0 (sym one.0) (sym one.1) has.1 has.2;
           }
 
+  -- a live grant of the table's clients is that of a live row
+  pub live_there : (g : Grant) → Contains (filter (in_table j) (live_grants history x)) g → Contains (map grant_of (live_rows x xs)) g
+  live_there g h =
+      let both : Contains (live_grants history x) g × (in_table j g ≡ true) = Contains-from_filter (in_table j) (live_grants history x) g h in
+      let is : IsLastDecision history g × (x < g.until) = (live_members history x g).0 both.0 in
+      let m : IsMapped grant_of (live_rows x xs) g = row_of_live g is.0 is.1 (eqb-true (table_of g.client) j both.1) in
+      subst (λ z. Contains (map grant_of (live_rows x xs)) z) m.is (Contains-map grant_of (live_rows x xs) m.from m.contained)
+
+  -- and the other way round
+  pub rows_there : (g : Grant) → Contains (map grant_of (live_rows x xs)) g → Contains (filter (in_table j) (live_grants history x)) g
+  rows_there g h =
+      let m : IsMapped grant_of (live_rows x xs) g = Contains-from_map grant_of (live_rows x xs) g h in
+      let both : Contains xs m.from × (is_live_row x m.from ≡ true) = Contains-from_filter (is_live_row x) xs m.from m.contained in
+      let kept = s.kept m.from both.0 in
+      subst (λ z. Contains (filter (in_table j) (live_grants history x)) z) m.is
+      (Contains-filter (in_table j) (live_grants history x) (grant_of m.from)
+      ((live_members history x (grant_of m.from)).1 (kept.1.granted, ltb-true x m.from.lease.until both.1))
+      (eq-eqb (table_of m.from.client) j kept.0))
+
   -- the clients of a table hold at most what its rows say
   pub table_rates-le : table_rates history x j ≤ share_of (live_rows x xs)
   unfolding table_rates
   table_rates-le =
       let within : rate_sum (filter (in_table j) (live_grants history x)) ≤ rate_sum (map grant_of (live_rows x xs)) =
-      rate_sum-within (filter (in_table j) (live_grants history x)) (map grant_of (live_rows x xs)) (apart_filter (in_table j) history x) (λ g h.
-      let both : Contains (live_grants history x) g × (in_table j g ≡ true) = Contains-from_filter (in_table j) (live_grants history x) g h in
-      let is : IsLastDecision history g × (x < g.until) = (live_members history x g).0 both.0 in
-      let m : IsMapped grant_of (live_rows x xs) g = row_of_live g is.0 is.1 (eqb-true (table_of g.client) j both.1) in
-      subst (λ z. Contains (map grant_of (live_rows x xs)) z) m.is (Contains-map grant_of (live_rows x xs) m.from m.contained)) in
+      rate_sum-within (filter (in_table j) (live_grants history x)) (map grant_of (live_rows x xs)) (apart_filter (in_table j) history x) live_there in
       omega (arith, within, share_of-grants (live_rows x xs))
 
   -- where no two rows are of one client and kind, just that
@@ -87,14 +104,7 @@ module _ (book j : ℕ) (xs : List Row) (moment : ℕ) (history : List Record) (
   live_share distinct =
       let within : rate_sum (map grant_of (live_rows x xs)) ≤ rate_sum (filter (in_table j) (live_grants history x)) =
       rate_sum-within (map grant_of (live_rows x xs)) (filter (in_table j) (live_grants history x))
-      (distinct_grants (live_rows x xs) (AllPairs-filter rows.Differ (is_live_row x) xs distinct)) (λ g h.
-      let m : IsMapped grant_of (live_rows x xs) g = Contains-from_map grant_of (live_rows x xs) g h in
-      let both : Contains xs m.from × (is_live_row x m.from ≡ true) = Contains-from_filter (is_live_row x) xs m.from m.contained in
-      let kept = s.kept m.from both.0 in
-      subst (λ z. Contains (filter (in_table j) (live_grants history x)) z) m.is
-      (Contains-filter (in_table j) (live_grants history x) (grant_of m.from)
-      ((live_members history x (grant_of m.from)).1 (kept.1.granted, ltb-true x m.from.lease.until both.1))
-      (eq-eqb (table_of m.from.client) j kept.0))) in
+      (distinct_grants (live_rows x xs) (AllPairs-filter rows.Differ (is_live_row x) xs distinct)) rows_there in
       omega (arith, within, share_of-grants (live_rows x xs), table_rates-le)
 
   reached_swept : (book ≤ x) ⊎ (moment ≤ x) → (max book x ≤ x) ⊎ (max moment x ≤ x)

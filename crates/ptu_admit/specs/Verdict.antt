@@ -1,7 +1,7 @@
 -- What is answered to a REQUEST_UNICAST_TRANSMISSION (IEEE 1588-2019 clause 16.1.4.1).
 use Rattle.std.specs.Prelude.{◌≡◌, ℕ, ◌+◌, ◌*◌, min, Option, Some, None, Result, Ok, Err, ℤ, nat_le, if◌then◌else◌}
 use Rattle.ptu_units.specs.{declared.kind.Kind.{Kind}, Log.{rate_of}}
-use Rattle.ptu_units.specs.declared.client.Client.{Client}
+use Rattle.ptu_units.specs.{declared.client.Client.{Client}, Time.{second}}
 use Rattle.ptu_history.specs.Verdict as history
 use Rattle.ptu_history.specs.Verdict.{Config, GrantedFor, OutsideCause, OutsideCode, OutsideDuration, OutsideLog, ShortOf, profile}
 use Rattle.ptu_messages.specs.declared.tlv.Ask.{Ask}
@@ -48,7 +48,7 @@ IsFor client (Outside cause) = Unit {0}
 abbrev pub verdict_on : Config → ℕ → ℕ → Kind → ℤ → ℕ → history.Verdict
 verdict_on config others n k l seconds =
     if nat_le (others + rate_of l) config.capacity
-    then GrantedFor k l (min seconds config.max_duration) (n + min seconds config.max_duration * 1000000000)
+    then GrantedFor k l (min seconds config.max_duration) (n + min seconds config.max_duration * second)
     else ShortOf k l others (rate_of l) config.capacity
 
 -- the verdict at the moment on an ask of this profile, by the rates of the other live grants for each kind

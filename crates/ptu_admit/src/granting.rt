@@ -1,7 +1,7 @@
 //! Grants on a table that is lent beside the book.
 
 ghost use Rattle.std.specs.Prelude.{◌≡◌, ◌≢◌, ℕ, ◌+◌, ◌-◌, ◌*◌, ◌≤◌, ◌<◌, min, nat_le, List, [], ◌∷◌, ◌++◌, IfSome, IfNone};
-ghost use Rattle.ptu_units.specs.{Client.{table_of}, Log.{period_of, rate_of}};
+ghost use Rattle.ptu_units.specs.{Client.{table_of}, Log.{period_of, rate_of}, Time.{second}};
 ghost use Rattle.ptu_admit.specs.Book.{IsInForce};
 ghost use Rattle.ptu_history.specs.History.{Record, Granted};
 ghost use Rattle.ptu_history.specs.Step.{verdict_records};
@@ -119,7 +119,7 @@ pub(crate) fn grant<P: Port>(
           log = wanted.log;
           at = at;
           seconds = seconds;
-          until = at + seconds * 1000000000;
+          until = at + seconds * second;
         } }
     ensures moments { (shard.new.moment ≡ at) × (book.new.moment ≡ at) }
     ensures capacity { book.new.capacity ≡ book.old.capacity }

@@ -2,6 +2,7 @@
 //! profile. Only this crate makes these values, so each is a decision that was taken.
 
 ghost use Rattle.std.specs.Prelude.{◌≡◌, ◌<◌, ◌+◌, ◌*◌};
+ghost use Rattle.ptu_units.specs.Time.{second};
 
 use crate::profile::Wanted;
 use ptu_units::{Client, Kind, Log, Moment};
@@ -43,6 +44,7 @@ pub struct Grant {
 
 impl Model for Grant {
     ghost use Rattle.std.specs.Prelude.{◌≡◌, ◌+◌, ◌*◌};
+    ghost use Rattle.ptu_units.specs.Time.{second};
     ghost use Rattle.ptu_admit.specs.Terms.{Terms};
 
     ghost Value = { Terms };
@@ -56,7 +58,7 @@ impl Model for Grant {
       until = g.until;
     } };
 
-    ghost invariant = { λ g. g.until ≡ g.at + g.seconds * 1000000000 };
+    ghost invariant = { λ g. g.until ≡ g.at + g.seconds * second };
 
     ghost inverse = { λ g. record {
       client = g.client;
@@ -71,7 +73,7 @@ impl Model for Grant {
 impl Grant {
     // A grant of what the client wanted, for so many seconds from the moment on.
     pub(crate) fn new(client: Client, wanted: Wanted, at: Moment, seconds: u32, until: u64) -> Grant
-        requires { until ≡ at + seconds * 1000000000 }
+        requires { until ≡ at + seconds * second }
         ensures { result ≡ record {
           client = client;
           kind = wanted.kind;
@@ -129,7 +131,7 @@ impl Grant {
     /// The end of the granted duration, in nanoseconds.
     pub fn until(&self) -> u64
         ensures value { result ≡ self.now.until }
-        ensures duration { result ≡ self.now.at + self.now.seconds * 1000000000 }
+        ensures duration { result ≡ self.now.at + self.now.seconds * second }
     {
         self.until
     }

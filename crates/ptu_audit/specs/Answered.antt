@@ -5,7 +5,7 @@ use Rattle.ptu_units.specs.{declared.kind.Kind.{Kind}, Kind.{code_of}}
 use Rattle.ptu_messages.specs.declared.header.PortIdentity.{PortIdentity}
 use Rattle.ptu_messages.specs.declared.tlv.Tlv.{Tlv}
 use Rattle.ptu_messages.specs.declared.tlv.Tlv.TheVariants as tlvs
-use Rattle.ptu_units.specs.declared.client.Client.{Client}
+use Rattle.ptu_units.specs.{declared.client.Client.{Client}, Time.{second}}
 use Rattle.ptu_audit_lines.specs.declared.entry.Decision.{Decision}
 use Rattle.ptu_audit_lines.specs.declared.entry.Decision.TheVariants as decisions
 use Rattle.ptu_audit.specs.declared.line.Said.{Said}
@@ -14,7 +14,7 @@ use Rattle.ptu_audit.specs.declared.line.Said.TheVariants as said
 -- a GRANT of the code and logarithm that invites a renewal, for the time from one moment to another
 abbrev pub grants : ℕ → ℤ → ℕ → ℕ → Tlv → Bool
 grants code log at until (tlvs.Grant ask renewal) =
-    renewal && ask.code == code && int_eq ask.log log && at + ask.seconds * 1000000000 == until
+    renewal && ask.code == code && int_eq ask.log log && at + ask.seconds * second == until
 grants code log at until _ = false
 
 -- a GRANT of the code for no time, which invites no renewal

@@ -1,32 +1,25 @@
 -- How many grants are live, by the rows of the tables.
 use Rattle.std.proofs.Common.{◌≡◌, ◌∙◌, ◌⊎◌, inl, inr, ℕ, zero, suc, ◌+◌, ◌<◌, ◌≤◌, List, [], ◌∷◌, map, Bool, true, false, not, cond, eqb, ltb, refl, sym, ap, subst, arith}
 use Rattle.std.specs.{List.{Contains, filter, sum_by}}
-use Rattle.std.proofs.lemmas.Bool.{eq-eqb, eqb-true, ltb-true}
 use Rattle.std.proofs.lemmas.List.{Filters.{sum_by-filter_both}, Kept.{AllPairs-filter}, Sums.{sum_by-cons}}
 use Rattle.ptu_units.specs.declared.kind.{Kind.{Kind}, Kind.TheVariants.{Announce, Sync, DelayResp}}
 use Rattle.ptu_units.specs.Client.{same_kind, table_of}
 use Rattle.ptu_history.specs.{Core.{book_step_moment}, History.{Record}, Moments.{book_moment}, Verdict.{table_rates}}
-use Rattle.ptu_history.specs.Live.{Grant, IsLastDecision, is_of, live_grants, without}
+use Rattle.ptu_history.specs.Live.{Grant, is_of, live_grants, without}
 use Rattle.ptu_units.proofs.Keys.{same_lease-refl}
-use Rattle.ptu_history.proofs.{Members.{Differ}, Orders.{live_distinct, live_members}, Rates.{rates-tables, table_below}}
-use Rattle.ptu_history.proofs.{Standing.{Contains-filter}, Unique.{Apart, Apart-from_pairs, Contains-cons_cases, Contains-first, Contains-from_filter, Contains-later}}
+use Rattle.ptu_history.proofs.{Members.{Differ}, Rates.{rates-tables, table_below}}
+use Rattle.ptu_history.proofs.{Standing.{Contains-filter}, Unique.{Apart, Contains-cons_cases, Contains-first, Contains-later}}
 use Rattle.ptu_shard.specs.{declared.lease.Row.{Row}, Row.{IsDistinctByLease, share_of}, Table.{StandsAt}}
 use Rattle.ptu_shard.proofs.RowLists as row_lists
 use Rattle.ptu_admit.specs.{declared.live.Live.{Live}, Lent.{lent_as, moment_for_all}}
 use Rattle.ptu_admit.specs.{LiveRows.{rows_of_kind}, Newest.{grant_of}, Rows.{live_rows}}
-use Rattle.ptu_admit.proofs.{Grants.{live_share, row_of_live}, StepMoments.{moment-all}}
-use Rattle.ptu_admit.proofs.Sums.{Contains-from_map, Contains-map, IsMapped, distinct_grants}
+use Rattle.ptu_admit.proofs.Grants.{apart_filter, in_table, is_live_row, live_share, live_there, rows_there}
+use Rattle.ptu_admit.proofs.{StepMoments.{moment-all}, Sums.{distinct_grants}}
 use Rattle.ptu_grandmaster.specs.declared.status.GmStatus.{GmStatus}
 use Rattle.ptu_grandmaster.specs.Gm.{KeptGm, StandsFor, tables}
 use Rattle.ptu_grandmaster.specs.Status.{AreAllLive, IsGmStatusOf, live_of_kind}
 
 -- ---- grants, by any weight
-
-abbrev in_table : ℕ → Grant → Bool
-in_table j g = eqb (table_of g.client) j
-
-abbrev is_live_row : ℕ → Row → Bool
-is_live_row x row = ltb x row.lease.until
 
 module _ (w : Grant → ℕ) where
   member-le : (gs : List Grant) (g : Grant) → Contains gs g → w g ≤ sum_by w gs
@@ -80,23 +73,13 @@ module _ (w : Grant → ℕ) where
   pub same_weight : (book j : ℕ) (xs : List Row) (moment : ℕ) (history : List Record) (x : ℕ) → StandsAt book j xs moment history → (book ≤ x) ⊎ (moment ≤ x) →
       IsDistinctByLease xs → sum_by (λ row. w (grant_of row)) (live_rows x xs) ≡ sum_by w (filter (in_table j) (live_grants history x))
   same_weight book j xs moment history x s reached distinct =
-      let apart = Apart-from_pairs Differ (filter (in_table j) (live_grants history x)) (AllPairs-filter Differ (in_table j) (live_grants history x) (live_distinct history x)) in
       let more : sum_by w (filter (in_table j) (live_grants history x)) ≤ sum_by w (map grant_of (live_rows x xs)) =
-      within (filter (in_table j) (live_grants history x)) (map grant_of (live_rows x xs)) apart (λ g h.
-      let both : Contains (live_grants history x) g × (in_table j g ≡ true) = Contains-from_filter (in_table j) (live_grants history x) g h in
-      let is : IsLastDecision history g × (x < g.until) = (live_members history x g).0 both.0 in
-      let m : IsMapped grant_of (live_rows x xs) g = row_of_live book j xs moment history x s reached g is.0 is.1 (eqb-true (table_of g.client) j both.1) in
-      subst (λ z. Contains (map grant_of (live_rows x xs)) z) m.is (Contains-map grant_of (live_rows x xs) m.from m.contained)) in
+      within (filter (in_table j) (live_grants history x)) (map grant_of (live_rows x xs)) (apart_filter (in_table j) history x)
+      (live_there book j xs moment history x s reached) in
       let less : sum_by w (map grant_of (live_rows x xs)) ≤ sum_by w (filter (in_table j) (live_grants history x)) =
       within (map grant_of (live_rows x xs)) (filter (in_table j) (live_grants history x))
-      (distinct_grants (live_rows x xs) (AllPairs-filter row_lists.Differ (is_live_row x) xs distinct)) (λ g h.
-      let m : IsMapped grant_of (live_rows x xs) g = Contains-from_map grant_of (live_rows x xs) g h in
-      let both : Contains xs m.from × (is_live_row x m.from ≡ true) = Contains-from_filter (is_live_row x) xs m.from m.contained in
-      let kept = s.kept m.from both.0 in
-      subst (λ z. Contains (filter (in_table j) (live_grants history x)) z) m.is
-      (Contains-filter (in_table j) (live_grants history x) (grant_of m.from)
-      ((live_members history x (grant_of m.from)).1 (kept.1.granted, ltb-true x m.from.lease.until both.1))
-      (eq-eqb (table_of m.from.client) j kept.0))) in
+      (distinct_grants (live_rows x xs) (AllPairs-filter row_lists.Differ (is_live_row x) xs distinct))
+      (rows_there book j xs moment history x s reached) in
       omega (arith, more, less, of_rows (live_rows x xs))
 
 -- how many grants of the kind are live at the moment, of clients of the table

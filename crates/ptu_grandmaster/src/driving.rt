@@ -4,7 +4,7 @@ ghost use Rattle.std.specs.Prelude.{◌≡◌, ◌+◌, ◌*◌, ◌^◌, ◌<�
 ghost use Rattle.ptu_history.specs.{Core.{history_after}, Counts.{counts}, Held.{budget, count}};
 ghost use Rattle.ptu_history.specs.History.{Record};
 ghost use Rattle.ptu_gm_messages.specs.Deciding.{opened_with};
-ghost use Rattle.ptu_units.specs.Limits.{IsCapacity};
+ghost use Rattle.ptu_units.specs.{Limits.{IsCapacity}, Time.{second}};
 ghost use Rattle.ptu_grandmaster.specs.Driven.{IsPossible, IsSetUpAs, IsTimely, driven_history, events_of, sent_taken};
 ghost use Rattle.ptu_grandmaster.specs.Gm.{StandsFor};
 
@@ -137,7 +137,7 @@ pub fn drive<P: Port>(
     ensures sent { IfOk result (λ d.
         d.sent ≡ (counts (driven_history config capacity events.now)).sent) }
     ensures budget { (x : ℕ) → let history = driven_history config capacity events.now in
-        count history x * (16 * 1000000000) ≤ budget capacity history x }
+        count history x * (16 * second) ≤ budget capacity history x }
 {
     let _sixteenths = capacity.get();
     let mut gm = Gm::new(alloc, config, capacity, p0, p1, p2, p3, reply);

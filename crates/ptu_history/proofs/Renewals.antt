@@ -8,7 +8,7 @@ use Rattle.ptu_units.specs.{declared.client.Client.{Client}, Log.{period_of}}
 use Rattle.ptu_history.specs.History.{Record, Granted, Short, Ended, Capacity, Shed, Looked, Sent, is_decision, moment_of, lease_records}
 use Rattle.ptu_history.specs.Live.{is_live, last_decision, live}
 use Rattle.ptu_history.specs.Runs.{follows, continues, first_of_run, sent_in_run, root, chain, sequence_number, sent_in_chain}
-use Rattle.ptu_history.specs.Lawful.{earliest, earliest_of, last_period, period_of_last}
+use Rattle.ptu_history.specs.Lawful.{earliest, earliest_of, edge_after, last_period, period_of_last}
 use Rattle.ptu_units.proofs.Keys.{same_lease-refl}
 use Rattle.ptu_history.proofs.LeaseRecords.{lease_records-push_own}
 use Rattle.ptu_history.proofs.Pacing.{earliest_credited-cons}
@@ -113,3 +113,11 @@ pub earliest_delay : (history : List Record) (t : ℕ) (c : Client) →
     earliest (history ++ Sent t c DelayResp ∷ []) c DelayResp ≡ max (earliest history c DelayResp + last_period history c DelayResp) t
 unfolding earliest
 earliest_delay history t c = earliest_sent history t c DelayResp ∙ earliest_credited-cons (last_period history c DelayResp) (chain history c DelayResp) t (sent_in_chain history c DelayResp)
+
+-- the earliest lawful moment after a message
+pub edge_sent : (history : List Record) (x : ℕ) (c : Client) (k : Kind) (p edge : ℕ) → last_period history c k ≡ p → edge ≡ earliest history c k →
+    edge_after k p edge x ≡ earliest (history ++ Sent x c k ∷ []) c k
+edge_sent history x c Announce p edge e f = ap (λ n. x + n) (sym e) ∙ sym (earliest_sent history x c Announce)
+edge_sent history x c Sync p edge e f = ap (λ n. x + n) (sym e) ∙ sym (earliest_sent history x c Sync)
+edge_sent history x c DelayResp p edge e f =
+    ap (λ n. max (n + p) x) f ∙ ap (λ n. max (earliest history c DelayResp + n) x) (sym e) ∙ sym (earliest_delay history x c)

@@ -1,7 +1,7 @@
 -- Two clients, some asks, and short lists of events, on which the definitions compute.
 use Rattle.std.specs.Prelude.{ℕ, ◌*◌, List, [], ◌∷◌, ◌++◌, ℤ, pos, negsuc}
 use Rattle.ptu_units.specs.declared.kind.{Kind.{Kind}, Kind.TheVariants.{Announce, Sync, DelayResp}}
-use Rattle.ptu_units.specs.{declared.client.Client.{Client}, Kind.{code_of}}
+use Rattle.ptu_units.specs.{declared.client.Client.{Client}, Kind.{code_of}, Time.{second}}
 use Rattle.ptu_history.specs.{Verdict.{Config, Ask, GrantedFor, ShortOf}, Held.{Payment}}
 use Rattle.ptu_history.specs.Events.{Event, Request, Cancel, Turn, DelayReq, Resize, Outcome, Decided, Turned}
 
@@ -19,7 +19,7 @@ third_client = record { ip = 0x0a000115; clock = 0x0a00000000000015; port = 1 }
 
 -- so many seconds in nanoseconds
 abbrev pub seconds : ℕ → ℕ
-seconds n = n * 1000000000
+seconds n = n * second
 
 -- this capacity, and this longest duration in seconds
 abbrev pub config_of : ℕ → ℕ → Config

@@ -46,6 +46,13 @@ unfoldable pub earliest : List Record → Client → Kind → ℕ
 earliest history c k =
     earliest_of k (last_period history c k) (chain history c k) (sent_in_chain history c k)
 
+-- the earliest lawful moment after a message at the moment, by the period and the earliest lawful
+-- moment before it
+abbrev pub edge_after : Kind → ℕ → ℕ → ℕ → ℕ
+edge_after Announce p edge x = x + p
+edge_after Sync p edge x = x + p
+edge_after DelayResp p edge x = max (edge + p) x
+
 -- a message of the client and kind may be sent at the moment
 unfoldable pub lawful : List Record → ℕ → Client → Kind → Bool
 lawful history x c k = live history x c k && nat_le (earliest history c k) x

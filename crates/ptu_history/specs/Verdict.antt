@@ -3,7 +3,7 @@
 use Rattle.std.specs.Prelude.{ℕ, ◌+◌, ◌*◌, min, Bool, ◌&&◌, List, Option, Some, None, Result, Ok, Err, ℤ, pos, nat_lt, nat_le, int_le, ◌==◌, if◌then◌else◌}
 use Rattle.std.specs.List.{filter, sum_by}
 use Rattle.ptu_units.specs.{declared.kind.Kind.{Kind}, Kind.{kind_of}, Log.{least_log, rate_of}}
-use Rattle.ptu_units.specs.{declared.client.Client.{Client}, Client.{table_of}}
+use Rattle.ptu_units.specs.{declared.client.Client.{Client}, Client.{table_of}, Time.{second}}
 use Rattle.ptu_history.specs.History.{Record, Granted, capacity_in_force}
 use Rattle.ptu_history.specs.Live.{Grant, last_decision, live_grants, without}
 
@@ -81,7 +81,7 @@ abbrev pub verdict_within : Config → List Record → ℕ → Client → Kind �
 verdict_within config history n c k ask =
     if nat_le (others history n c k + rate_of ask.log) (capacity_in_force config.capacity history)
     then GrantedFor k ask.log (granted_seconds config ask)
-    (n + granted_seconds config ask * 1000000000)
+    (n + granted_seconds config ask * second)
     else ShortOf k ask.log (others history n c k) (rate_of ask.log)
     (capacity_in_force config.capacity history)
 

@@ -9,6 +9,7 @@ ghost use Rattle.ptu_units.specs.declared.{client.Client.{Client}, kind.Kind.{Ki
 ghost use Rattle.ptu_units.specs.declared.kind.Kind.TheVariants.{Announce, Sync, DelayResp};
 ghost use Rattle.ptu_units.specs.{Kind.{kind_of}, Log.{IsLogOf, period_of, rate_of}};
 ghost use Rattle.ptu_units.specs.Client.{same_lease, table_of, client_cmp, kind_cmp};
+ghost use Rattle.ptu_units.specs.Time.{second};
 ghost use Rattle.ptu_history.specs.Order.{in_order};
 ghost use Rattle.ptu_history.specs.History.{Record, Granted, Short, Ended, Capacity, Shed, Looked, Sent, concerns, decides, is_decision, is_change, moment_of, capacity_in_force, lease_records, is_sent};
 ghost use Rattle.ptu_history.specs.Moments.{book_moment, book_part, table_moment, table_part, IsGreatest};
@@ -315,7 +316,7 @@ pub fn verdicts()
         others history n c k + rate_of ask.log ≤ capacity_in_force config.capacity history →
         verdict config history n c ask
         ≡ GrantedFor k ask.log (min ask.seconds config.max_duration)
-        (n + min ask.seconds config.max_duration * 1000000000) }
+        (n + min ask.seconds config.max_duration * second) }
     ensures short { (config : Config) (history : List Record) (n : ℕ) (c : Client) (k : Kind)
         (ask : Ask) →
         profile ask ≡ Ok k →

@@ -6,14 +6,14 @@ use Rattle.ptu_record.specs.declared.rule.Rule.TheVariants.{Flag, Gap}
 use Rattle.ptu_judges.specs.Held.{HasNone, HasTaken, Held, IsStock, fresh}
 
 module _ {A : Type 0} (f : A → Held) where
-  all_but_last : (P : Held → Type 0) (xs : List A) (x : A) → AllByRecursion P (map f (xs ++ x ∷ [])) → AllByRecursion P (map f xs) × P (f x)
+  pub all_but_last : (P : Held → Type 0) (xs : List A) (x : A) → AllByRecursion P (map f (xs ++ x ∷ [])) → AllByRecursion P (map f xs) × P (f x)
   all_but_last P [] x h = (tt, h.0)
   all_but_last P (y ∷ ys) x h = let rest = all_but_last P ys x h.1 in ((h.0, rest.0), rest.1)
 
-  one_less : (xs : List A) (x : A) → length (map f (xs ++ x ∷ [])) ≡ length (map f xs) + 1
+  pub one_less : (xs : List A) (x : A) → length (map f (xs ++ x ∷ [])) ≡ length (map f xs) + 1
   one_less xs x = length-map (xs ++ x ∷ []) f ∙ (length-append xs (x ∷ []) ∙ ap (λ n. n + 1) (sym (length-map xs f)))
 
-  empty : (old : List A) (n : ℕ) → n ≡ length old → n ≡ 0 → length (map f old) ≡ 0
+  pub empty : (old : List A) (n : ℕ) → n ≡ length old → n ≡ 0 → length (map f old) ≡ 0
   empty old n many none = length-map old f ∙ (sym many ∙ none)
 
   pub took_flag : (old new other : List A) (found : Option A) (n m : ℕ) → old ≡ new ++ option_to_list found → n ≡ length old

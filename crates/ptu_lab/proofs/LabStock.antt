@@ -4,29 +4,20 @@ use Rattle.std.specs.List.{AllByRecursion}
 use Rattle.std.proofs.lemmas.List.{length-map}
 use Rattle.ptu_record.specs.declared.rule.Rule.TheVariants.{Flag, Gap}
 use Rattle.ptu_judges.specs.Held.{Held, IsStock, fresh}
+use Rattle.ptu_judges.proofs.Stocks.{all_but_last, empty, one_less}
 use Rattle.ptu_lab.specs.Steps.{HasNone, HasTaken}
 
 module _ {A : Type 0} (f : A → Held) where
-  all_but_last : (P : Held → Type 0) (xs : List A) (x : A) → AllByRecursion P (map f (xs ++ x ∷ [])) → AllByRecursion P (map f xs) × P (f x)
-  all_but_last P [] x h = (tt, h.0)
-  all_but_last P (y ∷ ys) x h = let rest = all_but_last P ys x h.1 in ((h.0, rest.0), rest.1)
-
-  one_less : (xs : List A) (x : A) → length (map f (xs ++ x ∷ [])) ≡ length (map f xs) + 1
-  one_less xs x = length-map (xs ++ x ∷ []) f ∙ (length-append xs (x ∷ []) ∙ ap (λ n. n + 1) (sym (length-map xs f)))
-
   not_empty : (xs : List A) (x : A) → eqb (length (map f (xs ++ x ∷ []))) 0 ≡ false
-  not_empty xs x = ne_eqb _ 0 (λ none. omega (arith, one_less xs x))
-
-  empty : (old : List A) (n : ℕ) → n ≡ length old → n ≡ 0 → length (map f old) ≡ 0
-  empty old n many none = length-map old f ∙ (sym many ∙ none)
+  not_empty xs x = ne_eqb _ 0 (λ none. omega (arith, one_less f xs x))
 
   pub took_flag : (old new other : List A) (found : Option A) (n m : ℕ) → old ≡ new ++ option_to_list found → n ≡ length old
       → MatchOption found ((n ≡ 0) × (m ≡ 0)) (λ _. m + 1 ≡ n) → IsStock (map f old) (map f other)
       → MatchOption found (HasNone Flag (map f old) (map f other)) (λ judge. HasTaken Flag (map f old) (map f other) (map f new) (map f other) (f judge))
-  took_flag old new other None n m is many count stock = rw (empty old n many count.0) refl
+  took_flag old new other None n m is many count stock = rw (empty f old n many count.0) refl
   took_flag old new other (Some judge) n m is many count stock =
-      let parts = all_but_last (λ held. held ≡ fresh Flag) new judge (subst (λ l. AllByRecursion (λ held. held ≡ fresh Flag) (map f l)) is stock.flags_fresh) in
-      let less : length (map f (new ++ judge ∷ [])) - 1 ≡ length (map f new) = omega (arith, one_less new judge) in
+      let parts = all_but_last f (λ held. held ≡ fresh Flag) new judge (subst (λ l. AllByRecursion (λ held. held ≡ fresh Flag) (map f l)) is stock.flags_fresh) in
+      let less : length (map f (new ++ judge ∷ [])) - 1 ≡ length (map f new) = omega (arith, one_less f new judge) in
       rw is (record {
         is_fresh = parts.1;
         left = rw (not_empty new judge) (ap (λ k. Ok (record { flags = k; gaps = length (map f other) })) less);
@@ -36,10 +27,10 @@ module _ {A : Type 0} (f : A → Held) where
   pub took_gap : (old new other : List A) (found : Option A) (n m : ℕ) → old ≡ new ++ option_to_list found → n ≡ length old
       → MatchOption found ((n ≡ 0) × (m ≡ 0)) (λ _. m + 1 ≡ n) → IsStock (map f other) (map f old)
       → MatchOption found (HasNone (Gap 4) (map f other) (map f old)) (λ judge. HasTaken (Gap 4) (map f other) (map f old) (map f other) (map f new) (f judge))
-  took_gap old new other None n m is many count stock = rw (empty old n many count.0) refl
+  took_gap old new other None n m is many count stock = rw (empty f old n many count.0) refl
   took_gap old new other (Some judge) n m is many count stock =
-      let parts = all_but_last (λ held. held ≡ fresh (Gap 4)) new judge (subst (λ l. AllByRecursion (λ held. held ≡ fresh (Gap 4)) (map f l)) is stock.gaps_fresh) in
-      let less : length (map f (new ++ judge ∷ [])) - 1 ≡ length (map f new) = omega (arith, one_less new judge) in
+      let parts = all_but_last f (λ held. held ≡ fresh (Gap 4)) new judge (subst (λ l. AllByRecursion (λ held. held ≡ fresh (Gap 4)) (map f l)) is stock.gaps_fresh) in
+      let less : length (map f (new ++ judge ∷ [])) - 1 ≡ length (map f new) = omega (arith, one_less f new judge) in
       rw is (record {
         is_fresh = parts.1;
         left = rw (not_empty new judge) (ap (λ k. Ok (record { flags = length (map f other); gaps = k })) less);

@@ -1,7 +1,7 @@
 -- What a grandmaster keeps to, by its history (the budget and the payments are the project's own choice).
 use Rattle.std.specs.Prelude.{◌≡◌, ℕ, ◌*◌, ◌<◌, ◌≤◌, List, ◌∷◌, ◌++◌, ℤ, Some, IsTrue}
 use Rattle.std.specs.List.{AllPairs, Contains}
-use Rattle.ptu_units.specs.declared.{client.Client.{Client}, kind.Kind.{Kind}}
+use Rattle.ptu_units.specs.{declared.{client.Client.{Client}, kind.Kind.{Kind}}, Time.{second}}
 use Rattle.ptu_history.specs.{Held.{budget, count, force, held, payment, payments}, History.{Record, Granted, Sent}}
 use Rattle.ptu_history.specs.Live.{last_decision, live}
 use Rattle.ptu_laws.specs.Paid.{IsBefore, IsPaid}
@@ -28,4 +28,4 @@ pub record KeepsPromises (capacity : ℕ) (history : List Record) : Type 0 where
   pub within : (x : ℕ) → held history x ≤ force capacity history x
   pub paid : (before : List Record) (x : ℕ) (c : Client) (k : Kind) → IsSentAfter history before x c k → PaysItsPeriod history before x c k
   pub apart : AllPairs IsBefore (payments history)
-  pub budget : (x : ℕ) → count history x * (16 * 1000000000) ≤ budget capacity history x
+  pub budget : (x : ℕ) → count history x * (16 * second) ≤ budget capacity history x

@@ -2,7 +2,7 @@
 //! examples.
 
 ghost use Rattle.std.specs.Prelude.{◌≡◌, ℕ, ◌*◌, List, [], ◌∷◌, pos};
-ghost use Rattle.ptu_units.specs.declared.kind.Kind.TheVariants.{Announce, Sync};
+ghost use Rattle.ptu_units.specs.{declared.kind.Kind.TheVariants.{Announce, Sync}, Time.{second}};
 ghost use Rattle.ptu_history.specs.History.{Granted, Ended, Capacity, Shed, Sent};
 ghost use Rattle.ptu_history.specs.{Events.{Request, Resize}, Core.{core_history}};
 ghost use Rattle.ptu_history.specs.Held.{budget, count, force, held};
@@ -16,7 +16,7 @@ pub fn examples()
     // a Sync a second at capacity 16, with a turn at each whole second
     ensures budget_is_used_wholly { let after = core_history (config_of 16 300)
         (sync_and_turns (1 ∷ 2 ∷ 3 ∷ 4 ∷ 5 ∷ 6 ∷ 7 ∷ 8 ∷ 9 ∷ 10 ∷ [])) in
-        count after (seconds 10) * (16 * 1000000000) ≡ budget 16 after (seconds 10) }
+        count after (seconds 10) * (16 * second) ≡ budget 16 after (seconds 10) }
     ensures turns_backwards_send_one { let after = core_history (config_of 16 300)
         (sync_and_turns (10 ∷ 9 ∷ 8 ∷ 7 ∷ 6 ∷ 5 ∷ 4 ∷ 3 ∷ 2 ∷ 1 ∷ [])) in
         count after (seconds 10) ≡ 1 }

@@ -6,7 +6,7 @@ ghost use Rattle.std.specs.Prelude.{◌≡◌, ◌≢◌, ◌↔◌, ℕ, ◌+�
 ghost use Rattle.std.specs.List.{All, AllPairs, Contains, count_by, list_any};
 ghost use Rattle.ptu_units.specs.{declared.kind.Kind.{Kind}, Log.{period_of, rate_of}};
 ghost use Rattle.ptu_units.specs.{declared.kind.Kind.TheVariants.{DelayResp}, Client.{table_of}};
-ghost use Rattle.ptu_units.specs.declared.client.Client.{Client};
+ghost use Rattle.ptu_units.specs.{declared.client.Client.{Client}, Time.{second}};
 ghost use Rattle.ptu_history.specs.History.{Record, Granted, Capacity, Sent, capacity_in_force, is_sent, moment_of};
 ghost use Rattle.ptu_history.specs.Live.{Grant, last_decision, live, live_grants};
 ghost use Rattle.ptu_history.specs.{Lawful.{earliest}, Runs.{chain}};
@@ -132,17 +132,17 @@ pub fn messages_after_turns()
 /// all messages, where no event is handed a later moment.
 pub fn messages_within_budget()
     ensures within { (config : Config) (events : List (ℕ × Event)) (x : ℕ) →
-        count (core_history config events) x * (16 * 1000000000)
+        count (core_history config events) x * (16 * second)
         ≤ budget config.capacity (core_history config events) x }
     ensures constant { (config : Config) (events : List (ℕ × Event)) (x : ℕ) →
         list_any (λ e. is_resize e.1) events ≡ false →
-        count (core_history config events) x * (16 * 1000000000) ≤ config.capacity * x }
+        count (core_history config events) x * (16 * second) ≤ config.capacity * x }
     ensures greatest { (config : Config) (events : List (ℕ × Event)) (most x : ℕ) →
         config.capacity ≤ most → All (λ e. IsUpTo most e.1) events →
-        count (core_history config events) x * (16 * 1000000000) ≤ most * x }
+        count (core_history config events) x * (16 * second) ≤ most * x }
     ensures in_all { (config : Config) (events : List (ℕ × Event)) (most x : ℕ) →
         config.capacity ≤ most → All (λ e. IsUpTo most e.1) events → All (λ e. e.0 ≤ x) events →
-        count_by is_sent (core_history config events) * (16 * 1000000000) ≤ most * x }
+        count_by is_sent (core_history config events) * (16 * second) ≤ most * x }
 {}
 
 /// The laws of capacity, payment, held time and budget hold of every sound list of records,
@@ -185,7 +185,7 @@ pub fn sound_histories()
         IsSound opening history →
         sent_at history c k l x * period_of l ≤ held_time_at history c k l x }
     ensures within_budget { (opening : ℕ) (history : List Record) (x : ℕ) →
-        IsSound opening history → count history x * (16 * 1000000000) ≤ budget opening history x }
+        IsSound opening history → count history x * (16 * second) ≤ budget opening history x }
 {}
 
 /// What a turn or a Delay_Req of a table sends and answers at a moment depends on the records of

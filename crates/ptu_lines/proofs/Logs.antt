@@ -1,8 +1,10 @@
 -- A number in a range that lies in another range.
-use Rattle.std.proofs.Common.{◌≡◌, Bool, true, false, T, Option, Some, None, refl, subst, sym, ℤ, arith}
+use Rattle.std.proofs.Common.{◌≡◌, ℕ, List, Bool, true, false, T, Option, Some, None, refl, subst, sym, ℤ, pos, negsuc, arith}
 use Rattle.std.proofs.{lemmas.Int.{ints}, Math.Bool.{and-false}}
 use Rattle.std.specs.{Option.{option_and_then}, Prelude.{int_le}, Int.Signed.{◌≤ℤ◌, le_z_yes}}
-use Rattle.ptu_lines.specs.Words.{int_within}
+use Rattle.ptu_units.specs.declared.kind.{Kind.{Kind}, Kind.TheVariants.{Announce, Sync, DelayResp}}
+use Rattle.ptu_units.specs.Log.{least_log}
+use Rattle.ptu_lines.specs.Words.{int_within, log_of, log_within}
 
 -- where a test holds only if another does, and that one fails, so does it
 fails_with : (a b c d : ℤ) → (a ≤ℤ b → c ≤ℤ d) → int_le c d ≡ false → int_le a b ≡ false
@@ -32,3 +34,13 @@ pub narrower : (o : Option ℤ) (least greatest low high : ℤ) → low ≤ℤ l
     → option_and_then (int_within least greatest) o ≡ option_and_then (int_within least greatest) (option_and_then (int_within low high) o)
 narrower None least greatest low high l h = refl
 narrower (Some z) least greatest low high l h = narrower_at z least greatest low high l h
+
+least_wide : (kind : Kind) → negsuc 127 ≤ℤ least_log kind
+least_wide Announce = omega (arith, ints)
+least_wide Sync = omega (arith, ints)
+least_wide DelayResp = omega (arith, ints)
+
+-- the range of a kind is within -128 to 127
+pub log_of_kind_wide : (kind : Kind) (word : List ℕ)
+    → option_and_then (int_within (least_log kind) (pos 4)) (log_within word (negsuc 127) (pos 127)) ≡ log_within word (least_log kind) (pos 4)
+log_of_kind_wide kind word = sym (narrower (log_of word) (least_log kind) (pos 4) (negsuc 127) (pos 127) (least_wide kind) (omega (arith, ints)))

@@ -17,6 +17,8 @@ mod mem_host;
 mod mem_port;
 mod mem_sink;
 mod mem_source;
+mod noting_port;
+mod once_host;
 mod opened;
 mod port;
 mod reply;

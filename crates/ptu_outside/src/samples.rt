@@ -1,11 +1,13 @@
 //! Values for tests and examples: a port in memory at which nothing waits, a clock at 0, and what a
-//! host with such ports and clocks opens.
+//! host with such ports and clocks opens; a port that notes how it waits, and a host of any ports.
 
 ghost use Rattle.std.specs.Prelude.{◌≡◌, []};
 ghost use Rattle.ptu_outside.specs.{MemoryPort.{IsIdle}, MemoryClock.{clock_of}};
 
 use crate::mem_clock::MemClock;
 use crate::mem_port::MemPort;
+pub use crate::noting_port::{NotingPort, event_noted, noting};
+pub use crate::once_host::OnceHost;
 use crate::opened::Opened;
 use std::alloc::Global;
 

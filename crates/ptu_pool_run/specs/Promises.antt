@@ -14,6 +14,7 @@ use Rattle.ptu_gm_messages.specs.Deciding.{answer_by, events_of_datagram, opened
 use Rattle.ptu_gm_messages.specs.Replies.{reply_to}
 use Rattle.ptu_units.specs.declared.kind.{Kind.{Kind}, Kind.TheVariants.{DelayResp}}
 use Rattle.ptu_units.specs.{declared.client.Client.{Client}, Client.{table_of}, Log.{period_of}}
+use Rattle.ptu_units.specs.Time.{second}
 use Rattle.ptu_history.specs.{Live.{last_decision}, Runs.{chain}, Verdict.{Config}}
 use Rattle.ptu_laws.specs.Served.{held_time, held_time_at, periods_sent, sent_at}
 use Rattle.ptu_laws.specs.Turned.{IsInEach, sent_moments, turn_moments}
@@ -199,7 +200,7 @@ pub record KeepsPools (script : List ℕ) : Type 0 where
       over_all (told_in script).pools (λ i. held (history_of setup (told_in script) i) x) ≤ setup.capacity
   -- and so are their timing messages, at sixteen seconds of one sixteenth each
   pub messages_within : (setup : GrandmasterSetup) (x : ℕ) → (told_in script).setup ≡ Some setup →
-      over_all (told_in script).pools (λ i. count (history_of setup (told_in script) i) x) * (16 * 1000000000) ≤ setup.capacity * x
+      over_all (told_in script).pools (λ i. count (history_of setup (told_in script) i) x) * (16 * second) ≤ setup.capacity * x
   -- no client of a pool gets more messages of a kind than whole periods in which it held a grant
   pub each_client : ServesClientsOfPools script
   -- and messages come in each period and the time between the turns of its pool

@@ -1,6 +1,7 @@
 //! What holds of pools that share a capacity. Each function does nothing: its contract is the law.
 
 ghost use Rattle.std.specs.Prelude.{◌≡◌, ◌↔◌, ℕ, ◌*◌, ◌≤◌, false, List, ◌∷◌, ◌++◌, slice_get, IsTrue};
+ghost use Rattle.ptu_units.specs.Time.{second};
 ghost use Rattle.ptu_history.specs.Held.{count, held};
 ghost use Rattle.ptu_profile.specs.declared.grandmaster.GmConfig.{GmConfig};
 ghost use Rattle.ptu_pool_run.specs.declared.pools_fault.PoolsFault.{PoolsFault};
@@ -23,7 +24,7 @@ pub fn pools_within_capacity()
     ensures messages { (config : GmConfig) (capacity : ℕ) (pools : List Pool)
         (events : List PoolEvent) (x : ℕ) →
         Share capacity pools →
-        over_all pools (λ i. count (pool_history config pools i events) x) * (16 * 1000000000)
+        over_all pools (λ i. count (pool_history config pools i events) x) * (16 * second)
         ≤ capacity * x }
 {}
 

@@ -1,6 +1,6 @@
 -- When a slave asks a master for a kind (IEEE 1588-2019 clause 16.1; the pauses and the renewal at half of the duration are this project's own choice). Each record here is the record of one master.
 use Rattle.std.specs.Prelude.{ℕ, ◌+◌, ◌*◌, ◌%◌, Bool, false, cond, List, [], ◌∷◌, length, filter, filter_map, flat_map, Option, Some, None, option_map, option_to_list, ◌==◌, nat_le}
-use Rattle.ptu_units.specs.declared.kind.Kind.{Kind}
+use Rattle.ptu_units.specs.{declared.kind.Kind.{Kind}, Time.{second}}
 use Rattle.ptu_record.specs.{declared.wants.Wants.{Wants}, Lists.{last, maximum, since_last}}
 use Rattle.ptu_record.specs.Record.{Entry, Record, Asked, Granted, Denied, Cancelled}
 use Rattle.ptu_record.specs.{Wants.{is_kind, wanted_kinds}, Grants.{grant, is_live}}
@@ -31,7 +31,7 @@ refusals k L = filter_map (refusal_moment k) L
 
 -- how long after the last of so many asks without an answer the next one waits, in nanoseconds: a second, and a minute after each third
 abbrev pub pause : ℕ → ℕ
-pause count = cond (count % 3 == 0) 60000000000 1000000000
+pause count = cond (count % 3 == 0) (60 * second) second
 
 -- the pause after the last ask without an answer
 abbrev pub ask_gate : Kind → Record → Option ℕ
@@ -39,7 +39,7 @@ ask_gate k L = option_map (λ at. at + pause (length (open_asks k L))) (last (op
 
 -- a minute after the last denial or CANCEL
 abbrev pub refusal_gate : Kind → Record → Option ℕ
-refusal_gate k L = option_map (λ at. at + 60000000000) (last (refusals k L))
+refusal_gate k L = option_map (λ at. at + 60 * second) (last (refusals k L))
 
 -- half of the duration of the live grant
 abbrev pub renewal_gate : Kind → Record → ℕ → Option ℕ

@@ -1,16 +1,12 @@
 -- Records to compute on: what slaves took and did in some small cases. Moments are in nanoseconds.
 use Rattle.std.specs.Prelude.{ℕ, ◌+◌, ◌*◌, true, false, not, List, [], ◌∷◌, ◌++◌, map, filter, fold, replicate, Option, Some, None, is_some, nat_le, ℤ, pos}
 use Rattle.std.specs.List.{range_with_len}
-use Rattle.ptu_units.specs.declared.kind.Kind.{Kind}
+use Rattle.ptu_units.specs.{declared.kind.Kind.{Kind}, Time.{second}}
 use Rattle.ptu_record.specs.declared.{rule.Rule.TheVariants.{Flag, Gap}, wants.Wants.{Wants}}
 use Rattle.ptu_record.specs.Record.{Record, Announce, Sync, Resp, Told, Judge, Judged, Asked, Granted, Denied, Cancelled, Probed, Signalled, moment_of}
 use Rattle.ptu_record.specs.{SignalFails.{Timeouts, judgement}, Selection.{selected_master}}
 use Rattle.ptu_record.specs.Wants.{timeouts_of}
 use Rattle.ptu_record.specs.Step.{SlaveEvent, SlaveSetup, TakeSync, ReplaceJudge, Tick, slave_step}
-
--- a second in nanoseconds
-abbrev pub second : ℕ
-second = 1000000000
 
 -- the entries that are not later than t
 abbrev pub record_until : ℕ → Record → Record

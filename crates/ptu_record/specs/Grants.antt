@@ -1,6 +1,6 @@
 -- Which grant a slave has of a kind (IEEE 1588-2019 clause 16.1). Each record here is the record of one master.
 use Rattle.std.specs.Prelude.{ℕ, ◌+◌, ◌*◌, Bool, false, cond, List, ◌∷◌, filter, filter_map, zip, Option, Some, None, unwrap_or, nat_lt}
-use Rattle.ptu_units.specs.{declared.kind.Kind.{Kind}, Kind.{kinds}}
+use Rattle.ptu_units.specs.{declared.kind.Kind.{Kind}, Kind.{kinds}, Time.{second}}
 use Rattle.ptu_record.specs.{Lists.{last}, Record.{Entry, Record, Granted, Cancelled, Stopped}}
 use Rattle.ptu_record.specs.Wants.{is_kind}
 
@@ -17,7 +17,7 @@ grant_changes k L = filter_map (grant_change k) L
 -- a grant is live for its seconds from its moment on
 abbrev pub is_live_at : Option (ℕ × ℕ) → ℕ → Bool
 is_live_at None t = false
-is_live_at (Some g) t = nat_lt t (g.0 + g.1 * 1000000000)
+is_live_at (Some g) t = nat_lt t (g.0 + g.1 * second)
 
 -- the last grant that no CANCEL and no stop ended, with its seconds
 abbrev pub grant : Kind → Record → Option (ℕ × ℕ)

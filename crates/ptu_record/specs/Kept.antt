@@ -1,6 +1,6 @@
 -- What may be kept of a master's record in place of it to know when a kind is asked for, and what one entry more makes of it. Laws say that it is so.
 use Rattle.std.specs.Prelude.{ℕ, ◌+◌, ◌*◌, ◌%◌, cond, [], ◌∷◌, length, flat_map, Option, None, is_some, option_map, option_to_list, unwrap_or}
-use Rattle.ptu_units.specs.declared.kind.Kind.{Kind}
+use Rattle.ptu_units.specs.{declared.kind.Kind.{Kind}, Time.{second}}
 use Rattle.ptu_record.specs.{Lists.{last, maximum, newest_of}, Record.{Entry, Record}}
 use Rattle.ptu_record.specs.Grants.{grant, grant_change, is_live_at}
 use Rattle.ptu_record.specs.Asks.{ask_moment, is_answer, open_asks, pause, refusal_moment, refusals}
@@ -38,5 +38,5 @@ renewal_moment granted t = cond (is_live_at granted t) (option_map (λ g. g.0 + 
 abbrev pub gate_at : KindState → ℕ → ℕ
 gate_at kept t = maximum (flat_map option_to_list (
     option_map (λ at. at + pause kept.unanswered) kept.asked
-    ∷ option_map (λ at. at + 60000000000) kept.refused
+    ∷ option_map (λ at. at + 60 * second) kept.refused
     ∷ renewal_moment kept.granted t ∷ []))

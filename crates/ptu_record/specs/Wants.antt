@@ -1,7 +1,7 @@
 -- What a slave requests of its masters, and the timeouts that follow (IEEE 1588-2019 clause 16.1.1; the receipt timeouts are those of this project's profile).
 use Rattle.std.specs.Prelude.{ℕ, ◌*◌, Bool, List, filter, Option, Some, option_map, is_some, ◌==◌, ℤ}
 use Rattle.ptu_units.specs.declared.kind.{Kind.{Kind}, Kind.TheVariants.{Announce, Sync, DelayResp}}
-use Rattle.ptu_units.specs.{Kind.{code_of, kinds}, Log.{period_of}}
+use Rattle.ptu_units.specs.{Kind.{code_of, kinds}, Log.{period_of}, Time.{second}}
 use Rattle.ptu_record.specs.{declared.wants.Wants.{Wants}, SignalFails.{Timeouts}}
 
 abbrev pub is_kind : Kind → Kind → Bool
@@ -23,5 +23,5 @@ timeouts_of wants announce sync delay wait = record {
   announce = announce * period_of wants.announce;
   sync = sync * period_of wants.sync;
   delay = option_map (λ log. delay * period_of log) wants.delay;
-  wait = wait * 1000000000;
+  wait = wait * second;
 }

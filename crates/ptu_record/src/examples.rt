@@ -1,6 +1,6 @@
 //! Small cases that the definitions compute. Each clause is one case; the bodies are empty.
 ghost use Rattle.std.specs.Prelude.{◌≡◌, ◌*◌, ◌++◌, map, true, false, [], ◌∷◌, Some, None, pos, negsuc};
-ghost use Rattle.ptu_units.specs.declared.kind.Kind.{Kind};
+ghost use Rattle.ptu_units.specs.{declared.kind.Kind.{Kind}, Time.{second}};
 ghost use Rattle.ptu_record.specs.declared.rule.Rule.TheVariants.{Flag, Gap};
 ghost use Rattle.ptu_record.specs.Record.{record_of, moment_of, event_moment, Announce, Judged, Sync, Told, Judge, Asked, Granted, Denied, Cancelled, Probed, Signalled, Stopped, Event};
 ghost use Rattle.ptu_record.specs.Judges.{AreAssessments, assessment, clear_places, positions, rule_in_force};
@@ -9,7 +9,7 @@ ghost use Rattle.ptu_record.specs.Tick.{Requests, Cancels, Acknowledgements, Del
 ghost use Rattle.ptu_record.specs.Step.{GrantTlv, CancelTlv, AckTlv, TakeFollowUp, TakeSignaling, TakeSync, Tick, Stop, slave_step};
 ghost use Rattle.ptu_record.specs.{Asks.{gate, is_due}, Grants.{is_live, live_kinds, run_start}};
 ghost use Rattle.ptu_record.specs.Wants.{timeouts_of, wanted_kinds};
-ghost use Rattle.ptu_record.specs.Examples.{announces_missing, syncs_missing, one_of_each, second, record_until, message_pair, slow_wants, restored_master, tied_masters, choice, gaps, replaced_judge, prompt_choice, plain_wants, ticked_record, answered_ask, denied_ask, measuring_wants, renewed_grant, second_grant, measured_choice, record_after, plain_setup, measuring_setup, measuring_at, tick_requests, six_asks, prompt_timeouts, two_judges};
+ghost use Rattle.ptu_record.specs.Examples.{announces_missing, syncs_missing, one_of_each, record_until, message_pair, slow_wants, restored_master, tied_masters, choice, gaps, replaced_judge, prompt_choice, plain_wants, ticked_record, answered_ask, denied_ask, measuring_wants, renewed_grant, second_grant, measured_choice, record_after, plain_setup, measuring_setup, measuring_at, tick_requests, six_asks, prompt_timeouts, two_judges};
 
 /// Whose entries there are, and when.
 pub fn records()

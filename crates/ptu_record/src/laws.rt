@@ -4,7 +4,7 @@
 //! may keep these in place of the record.
 ghost use Rattle.std.specs.Prelude.{◌≡◌, ◌≢◌, ◌↔◌, ℕ, ◌+◌, ◌-◌, ◌*◌, ◌%◌, ◌<◌, ◌≤◌, max, Bool, true, false, cond, not, List, [], ◌∷◌, ◌++◌, length, map, flat_map, Option, Some, None, is_some, IsSome, IsTrue, unwrap_or, option_map, option_to_list, filter_map, fold, ◌&&◌, ◌||◌, ◌==◌, nat_lt, nat_le, ℤ};
 ghost use Rattle.std.specs.List.{list_all, list_any, AllByRecursion};
-ghost use Rattle.ptu_units.specs.{Log.{period_of}, declared.kind.Kind.{Kind}};
+ghost use Rattle.ptu_units.specs.{Log.{period_of}, declared.kind.Kind.{Kind}, Time.{second}};
 ghost use Rattle.ptu_record.specs.declared.rule.Rule.TheVariants.{Gap};
 ghost use Rattle.ptu_record.specs.Marks.{clear_count, fresh_marks, marks_after, marks_of};
 ghost use Rattle.ptu_record.specs.{declared.quality.Quality.{Quality}, declared.rule.Rule.{Rule}};
@@ -218,7 +218,7 @@ pub fn grants()
         grant k (L ++ e ∷ []) ≡ unwrap_or (grant_change k e) (grant k L) }
     // A grant is live for its seconds, and no longer after a CANCEL or the stop.
     ensures granted { (k : Kind) (L : Record) (at m seconds t : ℕ) →
-        is_live k (L ++ Granted at m k seconds ∷ []) t ≡ nat_lt t (at + seconds * 1000000000) }
+        is_live k (L ++ Granted at m k seconds ∷ []) t ≡ nat_lt t (at + seconds * second) }
     ensures cancelled { (k : Kind) (L : Record) (at m t : ℕ) →
         is_live k (L ++ Cancelled at m k ∷ []) t ≡ false }
     ensures stopped { (k : Kind) (L : Record) (at t : ℕ) →
@@ -280,13 +280,13 @@ pub fn asks()
     // an answer. Just after a denial or a CANCEL it is at least a minute later, and never before
     // half of a live grant's duration.
     ensures a_second_after_an_ask { (k : Kind) (L : Record) (at m t : ℕ) →
-        at + 1000000000 ≤ gate k (L ++ Asked at m k ∷ []) t }
+        at + second ≤ gate k (L ++ Asked at m k ∷ []) t }
     ensures a_minute_after_each_third { (k : Kind) (L : Record) (at m t : ℕ) →
-        length (open_asks k L) % 3 ≡ 2 → at + 60000000000 ≤ gate k (L ++ Asked at m k ∷ []) t }
+        length (open_asks k L) % 3 ≡ 2 → at + 60 * second ≤ gate k (L ++ Asked at m k ∷ []) t }
     ensures a_minute_after_a_denial { (k : Kind) (L : Record) (at m t : ℕ) →
-        at + 60000000000 ≤ gate k (L ++ Denied at m k ∷ []) t }
+        at + 60 * second ≤ gate k (L ++ Denied at m k ∷ []) t }
     ensures a_minute_after_a_cancel { (k : Kind) (L : Record) (at m t : ℕ) →
-        at + 60000000000 ≤ gate k (L ++ Cancelled at m k ∷ []) t }
+        at + 60 * second ≤ gate k (L ++ Cancelled at m k ∷ []) t }
     ensures half_of_the_duration { (k : Kind) (L : Record) (t at seconds : ℕ) →
         grant k L ≡ Some (at, seconds) → is_live k L t ≡ true →
         at + seconds * 500000000 ≤ gate k L t }

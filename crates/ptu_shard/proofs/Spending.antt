@@ -6,15 +6,15 @@ use Rattle.ptu_units.specs.declared.kind.{Kind.{Kind}, Kind.TheVariants.{Announc
 use Rattle.ptu_units.specs.Log.{period_of, rate_of}
 use Rattle.ptu_units.specs.{declared.client.Client.{Client}, Client.{same_lease, table_of}}
 use Rattle.ptu_history.specs.{History.{Record, Looked, Sent}, Moments.{table_moment, table_part}}
-use Rattle.ptu_history.specs.{Live.{Grant}, Lawful.{earliest, last_period}, Turns.{sent_record}}
+use Rattle.ptu_history.specs.{Live.{Grant}, Lawful.{earliest, edge_after, last_period}, Turns.{sent_record}}
 use Rattle.ptu_units.proofs.Keys.{eq-eqb-self, same_lease-sym, same_lease-true}
 use Rattle.ptu_history.proofs.Moments.{table_moment-push}
-use Rattle.ptu_history.proofs.Renewals.{earliest_delay, earliest_sent, last_period-granted, sequence_sent}
+use Rattle.ptu_history.proofs.Renewals.{edge_sent, last_period-granted, sequence_sent}
 use Rattle.ptu_history.proofs.Standing.{last_pushed}
 use Rattle.ptu_history.proofs.Unique.{Apart, Contains-cons_cases, Contains-first, Contains-later}
 use Rattle.ptu_shard.specs.declared.lease.{Lease.{Lease}, Row.{Row}}
 use Rattle.ptu_shard.specs.{Row.{is_row_of, lease_of, share_of}, Table.{IsLeaseOf, StandsAt}}
-use Rattle.ptu_shard.specs.Turn.{edge_after, spent_row, spent_where}
+use Rattle.ptu_shard.specs.Turn.{spent_row, spent_where}
 use Rattle.ptu_shard.proofs.RowLists.{Differ, missing_none, none_missing}
 use Rattle.ptu_shard.proofs.Standing.{IsLeaseOf-push}
 use Rattle.ptu_history.proofs.Moments.{table_part-le}
@@ -85,14 +85,6 @@ Contains-image {A} {B} f (y ∷ xs) x h = at (Contains-cons_cases y xs x h) (Con
 missing_spent : (test : Row → Bool) (x : ℕ) (c : Client) (k : Kind) (rows : List Row) → lease_of c k (spent_where test x rows) ≡ None → lease_of c k rows ≡ None
 missing_spent test x c k rows none = none_missing c k rows (λ row h.
     sym (own_is test x c k row) ∙ missing_none c k (spent_where test x rows) none (spent_if test x row) (Contains-image (spent_if test x) rows row h))
-
--- the earliest lawful moment after a message
-edge_sent : (history : List Record) (x : ℕ) (c : Client) (k : Kind) (p edge : ℕ) → last_period history c k ≡ p → edge ≡ earliest history c k →
-    edge_after k p edge x ≡ earliest (history ++ Sent x c k ∷ []) c k
-edge_sent history x c Announce p edge e f = ap (λ n. x + n) (sym e) ∙ sym (earliest_sent history x c Announce)
-edge_sent history x c Sync p edge e f = ap (λ n. x + n) (sym e) ∙ sym (earliest_sent history x c Sync)
-edge_sent history x c DelayResp p edge e f =
-    ap (λ n. max (n + p) x) f ∙ ap (λ n. max (earliest history c DelayResp + n) x) (sym e) ∙ sym (earliest_delay history x c)
 
 -- the lease of a row after a message
 spent_lease : (history : List Record) (x : ℕ) (c : Client) (k : Kind) (lease : Lease) → IsLeaseOf history c k lease →

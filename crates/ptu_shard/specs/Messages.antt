@@ -10,13 +10,13 @@ use Rattle.ptu_messages.specs.{declared.message.Message.{Message as Timed}, Sent
 use Rattle.ptu_outside.specs.declared.channel.Channel.{Channel}
 use Rattle.ptu_outside.specs.declared.channel.Channel.TheVariants.{Event, General}
 use Rattle.ptu_outside.specs.Departure.{Departure}
-use Rattle.ptu_units.specs.declared.client.Client.{Client}
+use Rattle.ptu_units.specs.{declared.client.Client.{Client}, Time.{second}}
 use Rattle.ptu_history.specs.Events.{Message}
 use Rattle.ptu_profile.specs.{declared.grandmaster.GmConfig.{GmConfig}, Grandmaster.{header_of}}
 
 -- the timestamp of a moment
 abbrev pub stamp_of : GmConfig → ℕ → Stamp
-stamp_of config x = record { seconds = config.epoch + x / 1000000000; nanos = x % 1000000000 }
+stamp_of config x = record { seconds = config.epoch + x / second; nanos = x % second }
 
 -- the body of an Announce: a timescale of its own, of unknown accuracy, from an internal oscillator
 abbrev pub announce_of : GmConfig → ℕ → AnnounceBody

@@ -5,7 +5,7 @@ use Rattle.std.specs.declared.cmp.Ordering.{Ordering}
 use Rattle.ptu_units.specs.declared.kind.{Kind.{Kind}, Kind.TheVariants.{Announce, Sync, DelayResp}}
 use Rattle.ptu_units.specs.Log.{period_of}
 use Rattle.ptu_units.specs.{declared.client.Client.{Client}, Client.{client_cmp, kind_cmp}}
-use Rattle.ptu_history.specs.{Order.{in_order}, Events.{Message}, Turns.{is_turned}}
+use Rattle.ptu_history.specs.{Events.{Message}, Lawful.{edge_after}, Order.{in_order}, Turns.{is_turned}}
 use Rattle.ptu_shard.specs.{declared.lease.Lease.{Lease}, declared.lease.Row.{Row}, Row.{is_row_of}}
 
 -- the row's lease is live at the moment, and its earliest lawful moment is not after it
@@ -37,12 +37,6 @@ message_of_row row = record { client = row.client; kind = row.kind; sequence = r
 -- the messages of a turn at the moment, in the order of sending
 abbrev pub due_messages : ℕ → List Row → List Message
 due_messages x rows = map message_of_row (due_rows x rows)
-
--- the earliest lawful moment after a message at the moment, by the period and the earliest lawful moment before it
-abbrev pub edge_after : Kind → ℕ → ℕ → ℕ → ℕ
-edge_after Announce p edge x = x + p
-edge_after Sync p edge x = x + p
-edge_after DelayResp p edge x = max (edge + p) x
 
 -- the row after a message at the moment, whether or not the send failed
 abbrev pub spent_row : ℕ → Row → Row

@@ -1,6 +1,6 @@
 -- Which answers an ask may be given where the tables stand behind locks (IEEE 1588-2019 clause 16.1.4.1).
 use Rattle.std.specs.Prelude.{◌≡◌, ℕ, ◌+◌, ◌*◌, ◌≤◌, ◌<◌, min, Ok, Err}
-use Rattle.ptu_units.specs.{declared.client.Client.{Client}, Log.{rate_of}}
+use Rattle.ptu_units.specs.{declared.client.Client.{Client}, Log.{rate_of}, Time.{second}}
 use Rattle.ptu_history.specs.Verdict.{profile}
 use Rattle.ptu_messages.specs.declared.tlv.Ask.{Ask}
 use Rattle.ptu_profile.specs.declared.grandmaster.GmConfig.{GmConfig}
@@ -16,7 +16,7 @@ pub record GrantsAsk (config : GmConfig) (t : ℕ) (client : Client) (ask : Ask)
   pub log : grant.log ≡ ask.log
   pub seconds : grant.seconds ≡ min ask.seconds config.max_duration
   pub at : t ≤ grant.at
-  pub until : grant.until ≡ grant.at + grant.seconds * 1000000000
+  pub until : grant.until ≡ grant.at + grant.seconds * second
 
 -- the rate that was asked for does not fit under a capacity, which is at most the greatest that may come into force, at
 -- a moment that is not before the one that was handed in

@@ -3,6 +3,7 @@
 -- choice.
 use Rattle.std.specs.Prelude.{ℕ, zero, suc, ◌+◌, ◌*◌, ◌/◌, ◌%◌, ◌^◌, ℤ, pos, ◌-ℤ◌, List, [], ◌∷◌}
 use Rattle.std.specs.{Prelude.{◌++◌, codes, map}, Fmt.{decimal}, List.{flat_map, range_with_len}}
+use Rattle.ptu_units.specs.Time.{second}
 use Rattle.hex.specs.Hex.{encode_lower}
 use Rattle.ptu_messages.specs.declared.header.{Header.{Header}, PortIdentity.{PortIdentity}}
 use Rattle.ptu_messages.specs.declared.tlv.Tlv.TheVariants.{Request}
@@ -94,7 +95,7 @@ ask_lines n = map ask_line (range_with_len 0 n)
 
 -- in second k each table takes a turn
 abbrev pub turn_lines_at : ℕ → List (List ℕ)
-turn_lines_at k = map (turn_text (k * 1000000000)) (range_with_len 0 4)
+turn_lines_at k = map (turn_text (k * second)) (range_with_len 0 4)
 
 -- in these many seconds, from the first on
 unfoldable pub turn_lines : ℕ → List (List ℕ)

@@ -7,17 +7,17 @@ use Rattle.ptu_units.specs.{declared.client.Client.{Client}, Log.{period_of}}
 use Rattle.ptu_units.specs.Client.{same_client, same_kind, same_lease}
 use Rattle.ptu_history.specs.History.{Record, Ended, Granted, Sent, Shed, concerns, is_decision}
 use Rattle.ptu_history.specs.{Moments.{greatest_by}, Live.{last_decision}}
-use Rattle.ptu_history.specs.Lawful.{earliest, last_period}
+use Rattle.ptu_history.specs.Lawful.{earliest, edge_after, last_period}
 use Rattle.ptu_units.proofs.Keys.{same_client-refl, same_lease-refl}
 use Rattle.ptu_history.proofs.AfterSteps.{live-last}
 use Rattle.ptu_history.proofs.{Decisions.{live-ended, live-shed}, Lists.{greatest_by-push}}
-use Rattle.ptu_history.proofs.Renewals.{earliest_delay, earliest_new, earliest_same, earliest_sent, first_continues, last_period-granted, other_continues}
+use Rattle.ptu_history.proofs.Renewals.{earliest_new, earliest_same, edge_sent, first_continues, last_period-granted, other_continues}
 use Rattle.ptu_history.proofs.Standing.{last_pushed}
 use Rattle.ptu_history.proofs.Strangers.{earliest-push, live-undecided_push}
 use Rattle.ptu_trail.specs.declared.cause.NoCause.TheVariants as causes
 use Rattle.ptu_trail.specs.declared.known.{Known.{Known}, Lease.{Lease}}
 use Rattle.ptu_trail.specs.Faults.{decided_part, fault_of, is_no_moment, last_decided, last_sent_to, sent_to_part}
-use Rattle.ptu_trail.specs.Known.{IsHeld, IsKnown, edge_after, edge_granted, fault_by, lease_at, with_lease}
+use Rattle.ptu_trail.specs.Known.{IsHeld, IsKnown, edge_granted, fault_by, lease_at, with_lease}
 
 pub message_fault : (opening : ℕ) (history : List Record) (c : Client) (k : Kind) (known : Known) (at : ℕ) → at < 2 ^ 62 → IsKnown history c known
     → fault_by at known.decided (lease_at k known) ≡ fault_of opening history (Sent at c k) []
@@ -38,13 +38,6 @@ message_fault opening history c k known at below s = by (lease_at k known) (s.he
         rw (stamp, ← s.decided, live-last history h.0 at c k lease.log lease.until h.1, ← h.2) (choice (ltb at known.decided) (ltb at lease.until) (ltb at lease.edge))
 
 -- ---- after a message
-
-edge_sent : (history : List Record) (x : ℕ) (c : Client) (k : Kind) (p edge : ℕ) → last_period history c k ≡ p → edge ≡ earliest history c k →
-    edge_after k p edge x ≡ earliest (history ++ Sent x c k ∷ []) c k
-edge_sent history x c Announce p edge e f = ap (λ n. x + n) (sym e) ∙ sym (earliest_sent history x c Announce)
-edge_sent history x c Sync p edge e f = ap (λ n. x + n) (sym e) ∙ sym (earliest_sent history x c Sync)
-edge_sent history x c DelayResp p edge e f =
-    ap (λ n. max (n + p) x) f ∙ ap (λ n. max (earliest history c DelayResp + n) x) (sym e) ∙ sym (earliest_delay history x c)
 
 module _ (history : List Record) (x : ℕ) (c : Client) (k : Kind) where
   -- the lease of its kind

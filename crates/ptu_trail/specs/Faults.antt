@@ -4,7 +4,7 @@ use Rattle.std.specs.Prelude.{◌≡◌, ℕ, ◌+◌, ◌*◌, ◌^◌, nat_lt,
 use Rattle.std.specs.{List.{AllByRecursion, find, list_any}, Option.{unwrap_or}}
 use Rattle.ptu_units.specs.declared.{kind.Kind.{Kind}, stamp.Stamp.{Stamp}}
 use Rattle.ptu_units.specs.Log.{IsLogOf, rate_of}
-use Rattle.ptu_units.specs.{declared.client.Client.{Client}, Client.{same_client}}
+use Rattle.ptu_units.specs.{declared.client.Client.{Client}, Client.{same_client}, Time.{second}}
 use Rattle.ptu_history.specs.History.{Record, Granted, Short, Ended, Capacity, Shed, Looked, Sent, capacity_in_force}
 use Rattle.ptu_history.specs.{Moments.{book_moment, greatest_by}, Live.{live, live_grants}}
 use Rattle.ptu_history.specs.{Lawful.{earliest}, Verdict.{others, rate_sum}}
@@ -128,7 +128,7 @@ is_shed_record _ = false
 -- the moment of a timestamp; one whose nanoseconds are not below 10^9 stands for no moment
 abbrev pub moment_of_stamp : Stamp → ℕ
 moment_of_stamp stamp =
-    if nat_lt stamp.nanos 1000000000 then stamp.seconds * 1000000000 + stamp.nanos else 2 ^ 62
+    if nat_lt stamp.nanos second then stamp.seconds * second + stamp.nanos else 2 ^ 62
 
 -- the client that has the address: that of the first decision there, and before any decision one
 -- that nothing was granted to

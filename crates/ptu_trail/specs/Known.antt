@@ -49,12 +49,6 @@ fault_by at decided (Some lease) =
     then (if nat_lt at lease.edge then Some causes.Early else None)
     else Some causes.Grant
 
--- the earliest moment after a message at the moment
-abbrev pub edge_after : Kind → ℕ → ℕ → ℕ → ℕ
-edge_after Announce p edge x = x + p
-edge_after Sync p edge x = x + p
-edge_after DelayResp p edge x = max (edge + p) x
-
 -- the earliest moment after a grant at the moment: a chain goes on where it finds a live grant of
 -- the same logarithm
 abbrev pub edge_granted : Option Lease → ℕ → ℤ → ℕ

@@ -4,7 +4,7 @@
 ghost use Rattle.std.specs.Prelude.{◌≡◌, ◌≢◌, ℕ, ◌+◌, ◌*◌, ◌≤◌, ◌<◌, ◌^◌, false, List, [], ◌∷◌, ◌++◌, map, ℤ, None, Some};
 ghost use Rattle.std.specs.List.{All};
 ghost use Rattle.ptu_units.specs.{declared.kind.Kind.{Kind}, declared.stamp.Stamp.{Stamp}};
-ghost use Rattle.ptu_units.specs.declared.client.Client.{Client};
+ghost use Rattle.ptu_units.specs.{declared.client.Client.{Client}, Time.{second}};
 ghost use Rattle.ptu_history.specs.History.{Record, Capacity, Sent};
 ghost use Rattle.ptu_history.specs.Lawful.{earliest};
 ghost use Rattle.ptu_history.specs.Held.{payments};
@@ -51,13 +51,13 @@ pub fn faultless_so_far()
 /// What is wrong with a message to an address.
 pub fn messages()
     ensures nanos { (opening : ℕ) (before : List Record) (stamp : Stamp) (ip : ℕ) (k : Kind) →
-        1000000000 ≤ stamp.nanos →
+        second ≤ stamp.nanos →
         fault_of opening before (message_to before stamp ip k) [] ≡ Some causes.Stamp }
     ensures late { (opening : ℕ) (before : List Record) (stamp : Stamp) (ip : ℕ) (k : Kind) →
-        2 ^ 62 ≤ stamp.seconds * 1000000000 + stamp.nanos →
+        2 ^ 62 ≤ stamp.seconds * second + stamp.nanos →
         fault_of opening before (message_to before stamp ip k) [] ≡ Some causes.Stamp }
     ensures stranger { (opening : ℕ) (before : List Record) (stamp : Stamp) (ip : ℕ) (k : Kind) →
-        stamp.nanos < 1000000000 → stamp.seconds * 1000000000 + stamp.nanos < 2 ^ 62 →
+        stamp.nanos < second → stamp.seconds * second + stamp.nanos < 2 ^ 62 →
         All (λ c. c.ip ≢ ip) (decided_clients before) →
         fault_of opening before (message_to before stamp ip k) [] ≡ Some causes.Grant }
 {}

@@ -1,4 +1,5 @@
 pub mod Kind
+pub mod Time
 pub mod Log
 pub mod Counts
 pub mod Limits

@@ -1,6 +1,7 @@
 -- Logarithms of mean message intervals, and the rate and period of each.
 use Rattle.std.specs.Prelude.{ℕ, ◌+◌, ◌-◌, ◌*◌, ◌/◌, ◌^◌, ℤ, pos, negsuc, ◌+ℤ◌, ◌≤ℤ◌, unsigned_abs}
 use Rattle.ptu_units.specs.declared.kind.{Kind.{Kind}, Kind.TheVariants.{Announce, Sync, DelayResp}}
+use Rattle.ptu_units.specs.Time.{second}
 
 -- the least logarithm of a kind
 abbrev pub least_log : Kind → ℤ
@@ -24,8 +25,8 @@ rate_of (negsuc n) = 2 ^ (5 + n)
 
 -- 2 ^ log seconds, in nanoseconds
 abbrev pub period_of : ℤ → ℕ
-period_of (pos n) = 2 ^ n * 1000000000
-period_of (negsuc n) = 1000000000 / 2 ^ (1 + n)
+period_of (pos n) = 2 ^ n * second
+period_of (negsuc n) = second / 2 ^ (1 + n)
 
 -- how far the logarithm is above -7
 abbrev pub place_of : ℤ → ℕ

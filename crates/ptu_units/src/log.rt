@@ -2,7 +2,7 @@
 
 ghost use Rattle.std.specs.{Prelude.{◌≡◌, ◌*◌, ◌≤◌}, Option.{SomeIff}};
 ghost use Rattle.ptu_units.specs.Log.{IsLog, IsLogOf, place_of, rate_of, period_of};
-ghost use Rattle.ptu_units.specs.declared.kind.Kind.TheVariants.{Announce};
+ghost use Rattle.ptu_units.specs.{declared.kind.Kind.TheVariants.{Announce}, Time.{second}};
 
 use crate::kind::Kind;
 use std::marker::Model;
@@ -132,7 +132,7 @@ pub fn period(log: Log) -> u64
     ensures period { result ≡ period_of log }
     ensures range { (7812500 ≤ result) × (result ≤ 16000000000) }
     // What a message pays at its rate over its period is the same for every logarithm.
-    ensures payment { rate_of log * period_of log ≡ 16 * 1000000000 }
+    ensures payment { rate_of log * period_of log ≡ 16 * second }
 {
     PERIODS[log.place()]
 }

@@ -8,7 +8,7 @@ use Rattle.ptu_messages.specs.declared.tlv.Tlv.{Tlv}
 use Rattle.ptu_history.specs.{Core.{history_after}, Live.{live}}
 use Rattle.ptu_history.specs.Events as events
 use Rattle.ptu_history.specs.{Held.{budget, count, force, held, payments}, History.{Record}}
-use Rattle.ptu_units.specs.Client.{table_of}
+use Rattle.ptu_units.specs.{Client.{table_of}, Time.{second}}
 use Rattle.ptu_history.specs.{History.{Granted}, Live.{last_decision}, Runs.{chain}}
 use Rattle.ptu_laws.specs.{Paid.{IsBefore}, Promises.{IsSentAfter, PaysItsPeriod}}
 use Rattle.ptu_laws.specs.Served.{held_time, held_time_at, periods_sent, sent_at}
@@ -114,7 +114,7 @@ pub record SignalsAnswers (stock : Stock) (script : List ℕ) : Type 0 where
 -- summed over the nanoseconds before it
 pub record WithinBudget (stock : Stock) (script : List ℕ) : Type 0 where
   pub within : (w : World) (ip : ℕ) (g : Grandmaster) → HasGrandmaster stock script w ip g
-      → (x : ℕ) → count g.past x * (16 * 1000000000) ≤ budget g.capacity g.past x
+      → (x : ℕ) → count g.past x * (16 * second) ≤ budget g.capacity g.past x
 
 -- of each grandmaster, up to every moment: the messages of a kind to a client, each as long as the period that was granted for it, are
 -- together no longer than the time in which the client held a grant of the kind; and so it is with the messages and the time of each

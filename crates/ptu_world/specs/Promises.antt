@@ -15,7 +15,7 @@ use Rattle.ptu_history.specs.{Runs.{sequence_number}}
 use Rattle.ptu_history.specs.Verdict.{Verdict, Outside, OutsideCause, granted_seconds, others, profile, verdict}
 use Rattle.ptu_laws.specs.{Granted.{is_granted, is_short}}
 use Rattle.ptu_profile.specs.Grandmaster.{IsWithinLimits}
-use Rattle.ptu_units.specs.Limits.{IsCapacity}
+use Rattle.ptu_units.specs.{Limits.{IsCapacity}, Time.{second}}
 use Rattle.ptu_gm_messages.specs.declared.item.Item.{Item}
 use Rattle.ptu_gm_messages.specs.declared.item.Item.TheVariants as items
 use Rattle.ptu_gm_messages.specs.declared.heard.Heard.TheVariants as heard
@@ -81,7 +81,7 @@ message_in epoch before (Sent x c k) =
     Some (record {
       to = c.ip;
       message_type = code_of k;
-      moment = sent_stamp (record { seconds = epoch + x / 1000000000; nanos = x % 1000000000 });
+      moment = sent_stamp (record { seconds = epoch + x / second; nanos = x % second });
       mark = mark_of before c k;
     })
 message_in epoch before _ = None

@@ -12,13 +12,13 @@ ghost use Rattle.std.specs.Prelude.{◌≤◌, IfOk, length};
 ghost use Rattle.ptu_outside.specs.MemoryPort.{FitAll};
 ghost use Rattle.ptu_config.specs.Limits.{IsControlPort, IsGmInRange};
 
-use super::staged::{OnceHost, assert_said, still};
+use super::staged::{assert_said, still};
 use super::values::{capacity_of, senders_of};
 use super::waiting::{ANNOUNCE, CLIENT, asking, port, request};
 use ptu_config::GmSettings;
 use ptu_config::samples::GM_SETTINGS;
 use ptu_daemon::serve;
-use ptu_outside::samples::opened_with;
+use ptu_outside::samples::{OnceHost, opened_with};
 use ptu_outside::{Arrival, Channel, DaemonFault, Datagram, MemClock, MemHost, MemPort, MemSink};
 use ptu_units::{Moment, UdpPortNumber};
 use std::alloc::Global;

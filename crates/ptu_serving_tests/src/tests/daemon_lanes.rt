@@ -1,12 +1,12 @@
 ghost use Rattle.std.specs.Prelude.{◌≡◌, None};
 ghost use Rattle.ptu_config.specs.Limits.{IsGmInRange};
 
-use super::staged::{Given, OnceHost, StagedPort, arriving, assert_said};
+use super::staged::{Given, StagedPort, arriving, assert_said};
 use super::values::{capacity_of, senders_of};
 use super::waiting::{SYNC, request};
 use ptu_config::GmSettings;
 use ptu_config::samples::GM_SETTINGS;
-use ptu_outside::samples::still_clock;
+use ptu_outside::samples::{OnceHost, still_clock};
 use ptu_outside::{Channel, Failed, MemClock, Opened, Port};
 use ptu_units::Moment;
 use std::alloc::Global;

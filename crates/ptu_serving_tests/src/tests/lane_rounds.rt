@@ -25,10 +25,11 @@
 ghost use Rattle.std.specs.Prelude.{◌≤◌};
 ghost use Rattle.ptu_config.specs.Limits.{IsGmInRange};
 
-use super::staged::{Given, OnceHost, StagedPort, arriving, assert_said, still};
+use super::staged::{Given, StagedPort, arriving, assert_said, still};
 use super::values::{capacity_of, senders_of};
 use ptu_config::GmSettings;
 use ptu_config::samples::GM_SETTINGS;
+use ptu_outside::samples::OnceHost;
 use ptu_outside::{Channel, Clock, MemClock, Opened};
 use ptu_units::Moment;
 use std::alloc::Global;

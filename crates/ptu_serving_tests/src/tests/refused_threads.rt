@@ -9,12 +9,13 @@
 
 ghost use Rattle.ptu_config.specs.Limits.{IsGmInRange};
 
-use super::staged::{Given, OnceHost, StagedPort, arriving, still};
+use super::staged::{Given, StagedPort, arriving, still};
 use super::values::{capacity_of, senders_of};
 use super::waiting::{SYNC, request};
 use ptu_config::GmSettings;
 use ptu_config::samples::GM_SETTINGS;
 use ptu_daemon::serve_within;
+use ptu_outside::samples::OnceHost;
 use ptu_outside::{Clock, MemClock, MemSink, Opened};
 use ptu_units::Moment;
 use std::alloc::Global;

@@ -1,4 +1,4 @@
-//! Ports and a host for tests, which say what comes when and keep what is sent.
+//! Ports for tests, which say what comes when and keep what is sent.
 
 ghost use Rattle.std.specs.Prelude.{◌≡◌, None};
 ghost use Rattle.ptu_outside.specs.Faults.{HasNotFallen, one_more};
@@ -119,75 +119,6 @@ pub(crate) fn still(alloc: Global) -> Opened<StagedPort, MemClock> {
         c3: still_clock(alloc),
         c4: still_clock(alloc),
         c5: still_clock(alloc),
-    }
-}
-
-/// A host that opens these ports and clocks once, and keeps what it is given back.
-#[derive(Drop)]
-pub(crate) struct OnceHost<P: Drop> {
-    pub opened: Option<Opened<P, MemClock>>,
-    pub back: Option<Opened<P, MemClock>>,
-    faults: u64,
-}
-
-impl<P: Drop> OnceHost<P> {
-    pub fn new(opened: Opened<P, MemClock>) -> OnceHost<P> {
-        OnceHost {
-            opened: Some(opened),
-            back: None,
-            faults: 0,
-        }
-    }
-}
-
-impl<P: Port + Send> Host for OnceHost<P> {
-    type P = P;
-
-    type C = MemClock;
-
-    ghost opening = { λ _. None };
-
-    ghost back = { λ _. None };
-
-    ghost opened_at = { λ _. None };
-
-    ghost control = { λ _. None };
-
-    ghost control_back = { λ _. None };
-
-    ghost control_at = { λ _. None };
-
-    ghost faults = { λ h. h.faults };
-
-    fn open(
-        &mut self,
-        _ip: u32,
-        _event_port: u16,
-        _general_port: u16,
-    ) -> Result<Opened<P, MemClock>, Failed> {
-        let opened = self.opened.take();
-        if opened.is_none() {
-            self.faults = self.faults.saturating_add(1);
-        }
-        opened.ok_or(Failed)
-    }
-
-    fn close(&mut self, opened: Opened<P, MemClock>)
-        ensures quiet { self.new.faults ≡ self.old.faults }
-    {
-        self.back = Some(opened);
-    }
-
-    // It has no control port.
-    fn open_control(&mut self, _number: u16) -> Result<P, Failed> {
-        self.faults = self.faults.saturating_add(1);
-        Err(Failed)
-    }
-
-    fn close_control(&mut self, port: P)
-        ensures quiet { self.new.faults ≡ self.old.faults }
-    {
-        let _ = port;
     }
 }
 

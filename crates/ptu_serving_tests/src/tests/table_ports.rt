@@ -4,10 +4,11 @@
 
 ghost use Rattle.ptu_config.specs.Limits.{IsGmInRange};
 
-use super::staged::{OnceHost, StagedPort, arriving, assert_said, still};
+use super::staged::{StagedPort, arriving, assert_said, still};
 use super::waiting::{ANNOUNCE, CLIENT, request};
 use ptu_config::GmSettings;
 use ptu_config::samples::GM_SETTINGS;
+use ptu_outside::samples::OnceHost;
 use ptu_outside::{Channel, MemClock, Opened};
 use ptu_units::Moment;
 use std::alloc::Global;

@@ -1,145 +1,25 @@
 //! How a daemon waits.
 
-ghost use Rattle.std.specs.Prelude.{◌≡◌, None};
-ghost use Rattle.ptu_outside.specs.Faults.{HasNotFallen, one_more};
 ghost use Rattle.ptu_config.specs.Limits.{IsGmInRange};
 
-use super::staged::{OnceHost, assert_said};
+use super::staged::assert_said;
 use super::values::{capacity_of, senders_of};
 use super::waiting::{SYNC, asking};
 use ptu_config::GmSettings;
 use ptu_config::samples::GM_SETTINGS;
-use ptu_outside::samples::{idle_port, opened_with};
-use ptu_outside::{Channel, Failed, MemClock, MemPort, Opened, Port};
-use ptu_units::Moment;
-use ptu_units::sizes::LONGEST_DATAGRAM;
+use ptu_outside::MemPort;
+use ptu_outside::samples::{OnceHost, event_noted, idle_port, noting, opened_with};
 use std::alloc::Global;
 use std::process::Abort;
 use std::sync::Wait;
-use std::sync::atomic::{AtomicU64, Ordering};
+use std::sync::atomic::AtomicU64;
 use std::test::Fail;
-use std::thread::{Threads, yield_now};
+use std::thread::Threads;
 
 // The last moment that there is.
 const LAST: u64 = (1 << 62) - 1;
 
 const SECOND: u64 = 1_000_000_000;
-
-// How often a receive of a slow port looks whether another one waits.
-const LOOKS: u32 = 100_000;
-
-// A port in memory that notes how often it waited, and until when it did first and last. Where it
-// is slow, a receive of it takes a while, but ends where another port of the test waits.
-#[derive(Drop)]
-struct NotingPort<'a> {
-    port: MemPort,
-    waited: &'a AtomicU64,
-    is_slow: bool,
-    waits: u64,
-    first: Moment,
-    last: Moment,
-    faults: u64,
-}
-
-impl<'a> NotingPort<'a> {
-    fn over(port: MemPort, waited: &'a AtomicU64, is_slow: bool) -> NotingPort<'a> {
-        NotingPort {
-            port,
-            waited,
-            is_slow,
-            waits: 0,
-            first: Moment::default(),
-            last: Moment::default(),
-            faults: 0,
-        }
-    }
-
-    fn noted(&self) -> (u64, u64, u64) {
-        (self.waits, self.first.nanos(), self.last.nanos())
-    }
-
-    // Gives other lanes time, until a port waits.
-    fn dawdle(&self) {
-        for _ in 0..LOOKS {
-            if self.waited.load(Ordering::SeqCst) > 0 {
-                return;
-            }
-            yield_now();
-        }
-    }
-
-    // Counts a fault.
-    fn fail(&mut self) -> Failed
-        ensures risen { self.new.faults ≡ one_more self.old.faults }
-        ensures no_fall { HasNotFallen self.old.faults self.new.faults }
-    {
-        self.faults = self.faults.saturating_add(1);
-        Failed
-    }
-}
-
-impl Port for NotingPort<'_> {
-    ghost sent = { λ _. None };
-
-    ghost waiting = { λ _. None };
-
-    ghost faults = { λ p. p.faults };
-
-    fn send(&mut self, ip: u32, channel: Channel, bytes: &[u8]) -> Result<(), Failed> {
-        match self.port.send(ip, channel, bytes) {
-            Ok(()) => Ok(()),
-            Err(Failed) => Err(self.fail()),
-        }
-    }
-
-    fn receive(
-        &mut self,
-        buf: &mut [u8; LONGEST_DATAGRAM],
-    ) -> Result<Option<(u32, usize)>, Failed> {
-        if self.is_slow {
-            self.dawdle();
-        }
-        match self.port.receive(buf) {
-            Ok(got) => Ok(got),
-            Err(Failed) => Err(self.fail()),
-        }
-    }
-
-    fn wait(&mut self, until: Moment)
-        ensures quiet { self.new.faults ≡ self.old.faults }
-    {
-        self.waited.fetch_add(1, Ordering::SeqCst);
-        if self.waits == 0 {
-            self.first = until;
-        }
-        self.waits = self.waits.saturating_add(1);
-        self.last = until;
-    }
-}
-
-// These ports, which note how they wait. Where there are lanes, the port of the general channel is
-// slow.
-fn noting<'a>(
-    opened: Opened<MemPort, MemClock>,
-    waited: &'a AtomicU64,
-    is_slow: bool,
-) -> Opened<NotingPort<'a>, MemClock> {
-    let over = |port| NotingPort::over(port, waited, false);
-    Opened {
-        p0: over(opened.p0),
-        p1: over(opened.p1),
-        p2: over(opened.p2),
-        p3: over(opened.p3),
-        p4: NotingPort::over(opened.p4, waited, is_slow),
-        p5: over(opened.p5),
-        c0: opened.c0,
-        c1: opened.c1,
-        c2: opened.c2,
-        c3: opened.c3,
-        c4: opened.c4,
-        c5: opened.c5,
-    }
-}
 
 // How often the port of the event channel waits, and until when first and last, where this port
 // receives the general channel and the run writes this line. No other port waits.
@@ -160,13 +40,8 @@ fn waits_of(
     );
     let mut host = OnceHost::new(opened);
     assert_said(rt, alloc, settings, &mut host, line);
-    let back = host.back.take().ok_or("ports are given back")?;
-    for other in [&back.p0, &back.p1, &back.p2, &back.p3, &back.p4] {
-        assert_eq!(rt; other.noted(), (0, 0, 0));
-    }
-    let noted = back.p5.noted();
-    drop(back);
-    Ok(noted)
+    let noted = host.back.as_ref().and_then(event_noted);
+    Ok(noted.ok_or("only the port of the event channel waits")?)
 }
 
 // A port at which a client asks for a Sync a second.

@@ -1,7 +1,7 @@
 use Rattle.std.proofs.Common.{rules, ◌≡◌, ◌∙◌, ap, pos, option_and_then}
 use Rattle.ptu_units.specs.Log.{least_log}
 use Rattle.ptu_lines.specs.Words.{int_within}
-use Rattle.ptu_script.proofs.Logs.{log_of_kind_wide}
+use Rattle.ptu_lines.proofs.Logs.{log_of_kind_wide}
 use Rattle.ptu_script.proofs.fields.log_of.Goals as goal
 
 pub returns-clause-value : goal.returns-clause-value

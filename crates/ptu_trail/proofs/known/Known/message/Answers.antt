@@ -2,7 +2,8 @@ use Rattle.std.proofs.Common.{◌≡◌, ◌∙◌, ◌++◌, [], ◌∷◌, Opt
 use Rattle.ptu_units.specs.Log.{period_of}
 use Rattle.ptu_history.specs.History.{Sent}
 use Rattle.ptu_trail.specs.declared.known.{Known.{Known}, Lease.{Lease}}
-use Rattle.ptu_trail.specs.Known.{IsKnown, edge_after, with_lease}
+use Rattle.ptu_history.specs.Lawful.{edge_after}
+use Rattle.ptu_trail.specs.Known.{IsKnown, with_lease}
 use Rattle.ptu_trail.proofs.Knowing.{message_fault, message_goes, sent_with}
 use Rattle.ptu_trail.proofs.known.Known.message.Goals as goal
 
