@@ -4,6 +4,10 @@ mod Handing
 mod Exchanges
 mod Taking
 mod Stretching
+mod Moving
+mod Hearing
+mod OneRound
+mod AllRounds
 mod Controlled
 mod Outcomes
 pub mod OrderedRounds

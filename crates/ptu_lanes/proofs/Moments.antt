@@ -1,5 +1,5 @@
 -- Moments that are taken of a clock, and those of the lanes that turn tables.
-use Rattle.std.proofs.Common.{◌≡◌, ◌∙◌, ℕ, suc, zero, ◌+◌, ◌*◌, ◌≤◌, List, refl, sym, ap, subst, arith, Option, Some, None}
+use Rattle.std.proofs.Common.{◌≡◌, ◌∙◌, ◌⊎◌, inl, inr, ℕ, suc, zero, ◌+◌, ◌*◌, ◌≤◌, List, refl, sym, ap, subst, arith, Option, Some, None}
 use Rattle.std.specs.Prelude.{option_map, ◌%◌, ◌==◌, Bool, true, false, if◌then◌else◌, is_some}
 use Rattle.std.proofs.Math.Nat.{mul-add}
 use Rattle.ptu_outside.specs.{Clocks.{after_first}, Telling.{IfTold}}
@@ -105,6 +105,28 @@ module _ {C : Type 0} (clocks : Clocks C) where
     moments = passed_as 0 (rights no_turns * rounds) _ _ (omega arith) (passed_none (clocks.moments clock));
     turned = refl;
   })
+
+-- a lane that did so many rounds, or turns nothing, turned its tables in each of them
+none_behind : (rounds : ℕ) (turns : Option ℕ) → option_map (λ n. n + rounds) turns ≡ None → turns ≡ None
+none_behind rounds None is = refl
+none_behind rounds (Some n) is = absurd (cc is)
+
+no_turns_behind : (rounds : ℕ) (turns : Turns) → after_rounds rounds turns ≡ no_turns → turns ≡ no_turns
+no_turns_behind rounds turns is =
+    rw (none_behind rounds turns.t0 (ap (λ (t : Turns). t.t0) is), none_behind rounds turns.t1 (ap (λ (t : Turns). t.t1) is),
+    none_behind rounds turns.t2 (ap (λ (t : Turns). t.t2) is), none_behind rounds turns.t3 (ap (λ (t : Turns). t.t3) is)) refl
+
+pub turned_with : {C : Type 0} (clocks : Clocks C) (rounds done : ℕ) (clock clock' : C) (turns turns' : Turns) → HasTurned clocks done clock clock' turns turns' →
+    (turns' ≡ no_turns) ⊎ (done ≡ rounds) → HasTurned clocks rounds clock clock' turns turns'
+turned_with clocks rounds done clock clock' turns turns' h (inr is) = subst (λ n. HasTurned clocks n clock clock' turns turns') is h
+turned_with clocks rounds done clock clock' turns turns' h (inl none) =
+    let nothing : turns ≡ no_turns = no_turns_behind done turns (sym h.turned ∙ none) in
+    let no_rights : rights turns ≡ 0 = ap rights nothing in
+    record {
+      moments = passed_as (rights turns * done) (rights turns * rounds) (clocks.moments clock) (clocks.moments clock')
+          (ap (λ n. n * done) no_rights ∙ sym (ap (λ n. n * rounds) no_rights)) h.moments;
+      turned = none ∙ sym (ap (after_rounds rounds) nothing);
+    }
 
 -- a lane that has its part of all rights turns its tables, each at a new moment of its clock
 right_of : (own : Bool) → one_right (if own then Some 0 else None) ≡ (if own then 1 else 0)

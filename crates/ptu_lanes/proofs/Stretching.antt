@@ -20,22 +20,17 @@ use Rattle.ptu_lanes.proofs.Taking.{none_taken, took-append, took_up_to}
 
 -- ---- what waited
 
--- the first of a list, and then the first of the rest
-front_more : {A : Type 0} (n m : ℕ) (xs : List A) → take (most * n) xs ++ take (most * m) (drop (most * n) xs) ≡ take (most * (n + m)) xs
-front_more n m xs =
-    let e : most * n + most * m ≡ most * (n + m) = omega arith in
-    sym (take-add (most * n) (most * m) xs) ∙ ap (λ k. take k xs) e
-
+-- the rest of the rest of a list
 rest_more : {A : Type 0} (n m : ℕ) (xs : List A) → drop (most * m) (drop (most * n) xs) ≡ drop (most * (n + m)) xs
 rest_more n m xs =
     let e : most * n + most * m ≡ most * (n + m) = omega arith in
     drop-drop (most * m) (most * n) xs ∙ ap (λ k. drop k xs) e
 
-gave_none : (waiting : Option (List Arrival)) → GaveFirst (most * 0) waiting waiting
+pub gave_none : (waiting : Option (List Arrival)) → GaveFirst (most * 0) waiting waiting
 gave_none None = tt
 gave_none (Some waited) = (waited, refl, refl)
 
-gave-append : (n m : ℕ) (waiting middle left : Option (List Arrival)) →
+pub gave-append : (n m : ℕ) (waiting middle left : Option (List Arrival)) →
     GaveFirst (most * n) waiting middle → GaveFirst (most * m) middle left → GaveFirst (most * (n + m)) waiting left
 gave-append n m waiting middle None first second = tt
 gave-append n m waiting None (Some later) first second = absurd (cc second.1)
@@ -45,59 +40,6 @@ gave-append n m waiting (Some between) (Some later) first second =
       first.1,
       second.2 ∙ ap (drop (most * m)) (sym same ∙ first.2) ∙ rest_more n m first.0,
     )
-
--- ---- the lane that takes Signaling
-
-rounds_none : {P : Type 0} (ports : Ports P) (greatest : ℕ) (config : GmConfig) (port : P) (counts : SeatCounts) →
-    IfSome (ports.waiting port) (λ later. AreRounds ports greatest config 0 port port later counts counts)
-rounds_none ports greatest config port counts = of (ports.waiting port) refl
-  where
-    of : (told : Option (List Arrival)) → ports.waiting port ≡ told → IfSome told (λ later. AreRounds ports greatest config 0 port port later counts counts)
-    of None is = tt
-    of (Some waited) is = record {
-      waited = waited;
-      all = is;
-      exchanges = [];
-      first = refl;
-      rest = refl;
-      answered = All-nil (IsAnswered greatest config);
-      told = told_none (ports.sent port);
-      goes_on = λ few tells. tells;
-      granted = omega arith;
-      counted = omega arith;
-    }
-
-asks-append : (config : GmConfig) (xs ys : List Exchange) → asks_in config (datagrams (xs ++ ys)) ≡ asks_in config (datagrams xs) + asks_in config (datagrams ys)
-asks-append config xs ys =
-    ap (asks_in config) (map-append (λ (e : Exchange). e.datagram) xs ys) ∙ sum_by-append (λ d. asks_among (items_of config d)) (datagrams xs) (datagrams ys)
-
--- the list that is told of what waits is that which was left
-pub told_is : {A : Type 0} (told : Option A) (Fact : A → Type 0) (x : A) → told ≡ Some x → IfSome told Fact → Fact x
-told_is None Fact x is fact = absurd (cc is)
-told_is (Some y) Fact x is fact = let same : y ≡ x = cc is in subst Fact same fact
-
-rounds-append : {P : Type 0} (ports : Ports P) (greatest : ℕ) (config : GmConfig) (n m : ℕ) (p0 p1 p2 : P) (left : List Arrival) (old now new : SeatCounts) →
-    IfSome (ports.waiting p1) (λ later. AreRounds ports greatest config n p0 p1 later old now) → AreRounds ports greatest config m p1 p2 left now new →
-    AreRounds ports greatest config (n + m) p0 p2 left old new
-rounds-append ports greatest config n m p0 p1 p2 left old now new earlier q =
-    let p = told_is (ports.waiting p1) (λ later. AreRounds ports greatest config n p0 p1 later old now) q.waited q.all earlier in
-    let same : q.waited ≡ drop (most * n) p.waited = p.rest in
-    let sent : replies config (p.exchanges ++ q.exchanges) ≡ replies config p.exchanges ++ replies config q.exchanges = flat_map-append (reply_in config) p.exchanges q.exchanges in
-    record {
-      waited = p.waited;
-      all = p.all;
-      exchanges = p.exchanges ++ q.exchanges;
-      first = map-append (λ (e : Exchange). e.datagram) p.exchanges q.exchanges ∙ ap (λ xs. xs ++ datagrams q.exchanges) p.first
-          ∙ ap (λ xs. take (most * n) p.waited ++ xs) (q.first ∙ ap (take (most * m)) same) ∙ front_more n m p.waited;
-      rest = q.rest ∙ ap (drop (most * m)) same ∙ rest_more n m p.waited;
-      answered = All-append (IsAnswered greatest config) p.exchanges q.exchanges p.answered q.answered;
-      told = subst (λ ds. WasSent ports p0 p2 ds) (sym sent)
-          (told_both (ports.sent p0) (ports.sent p1) (ports.sent p2) (replies config p.exchanges) (replies config q.exchanges) p.told q.told);
-      goes_on = subst (λ ds. GoesOn ports p0 p2 ds) (sym sent)
-          (goes_on_both ports.ceases_at (replies config p.exchanges) (replies config q.exchanges) (ports.sent p0) (ports.sent p1) (ports.sent p2) p.goes_on q.goes_on);
-      granted = let a = p.granted in let b = q.granted in omega (arith, sum_by-append (λ (e : Exchange). grants_among (answers_of e)) p.exchanges q.exchanges);
-      counted = let a = p.counted in let b = q.counted in omega (arith, asks-append config p.exchanges q.exchanges);
-    }
 
 -- ---- rounds at a port
 
@@ -112,73 +54,7 @@ counts_more once faults faults' failed more failed' f is = λ start before.
     subst (λ n. HaveFailed once n start faults') (sym is)
     (failed_bounded once (failed + more) start faults' (failed-append once failed more start faults faults' before f))
 
--- a round is one of so many
-rounds_one : {P : Type 0} (ports : Ports P) (greatest : ℕ) (config : GmConfig) (port port' : P) (left : List Arrival) (old new : SeatCounts) (asks sent : ℕ) →
-    new.granted + new.refused ≡ old.granted + old.refused + asks → IsRound ports greatest config port port' left old.granted new.granted asks sent →
-    AreRounds ports greatest config 1 port port' left old new
-rounds_one ports greatest config port port' left old new asks sent counted r = record {
-  waited = r.waited;
-  all = r.all;
-  exchanges = r.exchanges;
-  first = r.first;
-  rest = r.rest;
-  answered = r.answered;
-  told = r.told;
-  goes_on = r.goes_on;
-  granted = r.granted_are;
-  counted = counted ∙ ap (λ n. old.granted + old.refused + n) (r.asks_are ∙ sym (ap (asks_in config) r.first));
-}
-
 module _ {P C : Type 0} (ports : Ports P) (clocks : Clocks C) where
-  pub signaling_none : (greatest : ℕ) (config : GmConfig) (port : P) (clock : C) (counts : SeatCounts) (gone failed : ℕ) →
-      TookSignaling ports clocks greatest config 0 port port clock clock counts counts gone gone failed failed
-  signaling_none greatest config port clock counts gone failed = record {
-    did = λ same. rounds_none ports greatest config port counts;
-    sent = 0;
-    more = 0;
-    exchanged = exchanged_none ports clocks greatest config port clock counts;
-    most = omega arith;
-    sends = λ start was. omega (arith, was);
-    failures = λ start f. f;
-    no_fall = not_fallen_none (ports.faults port);
-  }
-
-  pub signaling_one : (greatest : ℕ) (config : GmConfig) (port port' : P) (clock clock' : C) (old new : SeatCounts) (asks sent more gone gone' failed failed' : ℕ) →
-      new.granted + new.refused ≡ old.granted + old.refused + asks → asks ≤ 32 * most →
-      (¬ HasRisen (ports.faults port) (ports.faults port') → IfSome (ports.waiting port') (λ left. IsRound ports greatest config port port' left old.granted new.granted asks sent)) →
-      Exchanged ports clocks greatest config 1 sent more port port' clock clock' old new →
-      gone' ≡ min (gone + sent) (2 ^ 128 - 1) → failed' ≡ min (failed + more) (2 ^ 64 - 1) →
-      TookSignaling ports clocks greatest config 1 port port' clock clock' old new gone gone' failed failed'
-  signaling_one greatest config port port' clock clock' old new asks sent more gone gone' failed failed' counted few round exchanged goes is = record {
-    did = λ same. some_more (ports.waiting port') _ _ (λ left. rounds_one ports greatest config port port' left old new asks sent counted) (round same);
-    sent = sent;
-    more = more;
-    exchanged = exchanged;
-    most = omega (arith, counted, few);
-    sends = λ start was. omega (arith, was, goes);
-    failures = counts_more ports.counts_once (ports.faults port) (ports.faults port') failed more failed' exchanged.failures is;
-    no_fall = exchanged.failures.no_fall;
-  }
-
-  pub signaling-append : (greatest : ℕ) (config : GmConfig) (n m : ℕ) (p0 p1 p2 : P) (c0 c1 c2 : C) (old now new : SeatCounts) (g0 g1 g2 f0 f1 f2 : ℕ) →
-      TookSignaling ports clocks greatest config n p0 p1 c0 c1 old now g0 g1 f0 f1 → TookSignaling ports clocks greatest config m p1 p2 c1 c2 now new g1 g2 f1 f2 →
-      TookSignaling ports clocks greatest config (n + m) p0 p2 c0 c2 old new g0 g2 f0 f2
-  signaling-append greatest config n m p0 p1 p2 c0 c1 c2 old now new g0 g1 g2 f0 f1 f2 p q = record {
-    did = λ same. some_more (ports.waiting p2) _ _
-        (λ left. rounds-append ports greatest config n m p0 p1 p2 left old now new (p.did (λ rises. same (rises_first (ports.faults p0) (ports.faults p1) (ports.faults p2) rises q.no_fall))))
-        (q.did (λ rises. same (rises_second (ports.faults p0) (ports.faults p1) (ports.faults p2) p.no_fall rises)));
-    sent = p.sent + q.sent;
-    more = p.more + q.more;
-    exchanged = exchanged-append ports clocks greatest config n m p.sent p.more q.sent q.more p0 p1 p2 c0 c1 c2 old now new p.exchanged q.exchanged;
-    most = let a = p.most in let b = q.most in omega arith;
-    sends = λ start was.
-        let first = p.sends start was in
-        let second = q.sends (start + p.sent) first in
-        omega (arith, second);
-    failures = λ start f. q.failures start (p.failures start f);
-    no_fall = not_fallen_both (ports.faults p0) (ports.faults p1) (ports.faults p2) p.no_fall q.no_fall;
-  }
-
   pub delays_none : (port : P) (clock : C) (failed : ℕ) → TookDelayReqs ports clocks 0 port port clock clock failed failed
   delays_none port clock failed = record {
     gave = λ same. gave_none (ports.waiting port);

@@ -1,6 +1,6 @@
 -- What comes of lanes that are called in threads of their own, and of a grandmaster that is to be served by them (the project's own
 -- choice).
-use Rattle.std.specs.Prelude.{◌≡◌, ℕ, ◌-◌, ◌^◌, ◌⊎◌, min, false, [], length, Option, Ok, is_some, IfOk, IfSome}
+use Rattle.std.specs.Prelude.{◌≡◌, ◌≤◌, ℕ, ◌-◌, ◌^◌, ◌⊎◌, min, false, [], length, Option, Ok, is_some, IfOk, IfSome}
 use Rattle.ptu_outside.specs.declared.{clock.Clock.{Ghosts as Clocks}, opened.Opened.{Opened}, port.Port.{Ghosts as Ports}}
 use Rattle.ptu_outside.specs.Faults.{HasRisen}
 use Rattle.ptu_profile.specs.declared.grandmaster.GmConfig.{GmConfig}
@@ -111,6 +111,7 @@ ServedAs ports clocks settings config old new =
 
 -- all lanes did the rounds that they say, between these ports and clocks as they were opened, and as the lanes have them
 pub record LanesServed {P C L G R : Type 0} (ports : Ports P) (clocks : Clocks C) (settings : GmSettings) (config : GmConfig) (opened : Opened P C) (speaking : Option P) (lanes : Lanes P C L G R) : Type 0 where
+  pub lanes_are : (1 ≤ settings.senders) × (settings.senders ≤ 4)
   pub control : ServedSignaling ports clocks settings config opened.p4 lanes.control.port opened.c0 lanes.control.clock
       speaking lanes.control.control lanes.control.seat lanes.control.tally.sent lanes.control.tally.failed lanes.control.done lanes.control.in_force
   pub event : TookDelayReqs ports clocks lanes.event.done opened.p5 lanes.event.port opened.c1 lanes.event.clock 0 lanes.event.failed

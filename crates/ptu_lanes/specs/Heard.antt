@@ -5,6 +5,7 @@ use Rattle.ptu_units.specs.declared.{client.Client.{Client}, kind.Kind.{Kind}}
 use Rattle.ptu_outside.specs.{declared.arrival.Arrival.{Arrival}, declared.port.Port.{Ghosts as Ports}, Departure.{Departure}}
 use Rattle.ptu_outside.specs.declared.channel.Channel.TheVariants as channels
 use Rattle.ptu_outside.specs.{Faults.{HasNotFallen, HasRisen}, Handed.{WasHanded}, HandsOver.{HandsOver}, Taken.{Gave}}
+use Rattle.ptu_outside.specs.Rounds.{most}
 use Rattle.ptu_profile.specs.declared.grandmaster.GmConfig.{GmConfig}
 use Rattle.ptu_shared.specs.Opening.{HaveFailed}
 use Rattle.ptu_config.specs.{declared.settings.GmSettings.{GmSettings}, Answers.{reply_text}}
@@ -110,7 +111,7 @@ answers_in rounds = flat_map (λ (r : LaneRound). reply_sent r.reply) rounds
 -- a round in which no greater capacity than this comes into force, and before which the lane stands so: it took 64 datagrams at most, each
 -- item was decided and answered, grants are shed only by a change or an order for which they may be, and what was asked for was answered
 pub record IsLaneRound (greatest : ℕ) (settings : GmSettings) (config : GmConfig) (at : LaneAt) (r : LaneRound) : Type 0 where
-  pub few : length r.exchanges ≤ 64
+  pub few : length r.exchanges ≤ most
   pub answered : All (IsAnswered greatest config) r.exchanges
   pub unchanged : begins_changed settings at.before ≡ false → r.changed ≡ []
   pub kept : capacity_by (ordered_by settings r) ≡ None → r.shed ≡ []

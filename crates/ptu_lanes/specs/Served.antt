@@ -4,6 +4,7 @@ use Rattle.std.specs.{Prelude.{◌≡◌, ℕ, suc, zero, ◌+◌, ◌-◌, ◌*
 use Rattle.ptu_outside.specs.declared.{arrival.Arrival.{Arrival}, clock.Clock.{Ghosts as Clocks}}
 use Rattle.ptu_outside.specs.declared.{opened.Opened.{Opened}, port.Port.{Ghosts as Ports}}
 use Rattle.ptu_outside.specs.{Departure.{Departure}, Faults.{HasRisen}}
+use Rattle.ptu_outside.specs.Rounds.{most}
 use Rattle.ptu_profile.specs.declared.grandmaster.GmConfig.{GmConfig}
 use Rattle.ptu_shared.specs.{Histories.{SendsLawfully}, Opening.{HaveFailed, Seen, seen_of}, Turning.{Turns, turns_in}}
 use Rattle.ptu_config.specs.{declared.settings.GmSettings.{GmSettings}, Rounds.{all_rounds}}
@@ -21,8 +22,8 @@ use Rattle.ptu_lanes.specs.declared.serving.Totals.{Totals}
 pub record IsControlled {P : Type 0} (ports : Ports P) (settings : GmSettings) (config : GmConfig) (port port' : P) (left : List Arrival) (rounds : List LaneRound) : Type 0 where
   pub waited : List Arrival
   pub all : ports.waiting port ≡ Some waited
-  pub all_are : datagrams (exchanges_in rounds) ≡ take (64 * length rounds) waited
-  pub rest : left ≡ drop (64 * length rounds) waited
+  pub all_are : datagrams (exchanges_in rounds) ≡ take (most * length rounds) waited
+  pub rest : left ≡ drop (most * length rounds) waited
   pub told : WasSent ports port port' (lane_sends settings config (opened_at settings) rounds)
   pub goes_on : GoesOn ports port port' (lane_sends settings config (opened_at settings) rounds)
 
@@ -141,8 +142,8 @@ pub record ServesByLanes {P C : Type 0} (ports : Ports P) (clocks : Clocks C) (s
   pub within : numbers.held ≤ (at_after settings (opened_at settings) exchanged.rounds).in_force
   -- likewise the port of the event channel, which was sent nothing, and goes on to tell that
   pub event : ¬ HasRisen (ports.faults opened.p5) (ports.faults closed.p5) →
-      GaveFirst (64 * rounds) (ports.waiting opened.p5) (ports.waiting closed.p5)
-  pub took : Took ports clocks (64 * rounds) 0 opened.p5 closed.p5 opened.c1 closed.c1
+      GaveFirst (most * rounds) (ports.waiting opened.p5) (ports.waiting closed.p5)
+  pub took : Took ports clocks (most * rounds) 0 opened.p5 closed.p5 opened.c1 closed.c1
   pub missed : MissedFew ports rounds opened.p5 closed.p5
   pub unsent : ports.sent closed.p5 ≡ ports.sent opened.p5
   -- each lane that turns tables took a moment of its clock for each of its tables and each round

@@ -4,6 +4,7 @@ use Rattle.std.specs.List.{All}
 use Rattle.ptu_units.specs.declared.{client.Client.{Client}, kind.Kind.{Kind}}
 use Rattle.ptu_outside.specs.declared.{arrival.Arrival.{Arrival}, clock.Clock.{Ghosts as Clocks}, port.Port.{Ghosts as Ports}}
 use Rattle.ptu_outside.specs.{Departure.{Departure}, Faults.{HasNotFallen, HasRisen}, Handed.{WasHanded}}
+use Rattle.ptu_outside.specs.Rounds.{most}
 use Rattle.ptu_profile.specs.declared.grandmaster.GmConfig.{GmConfig}
 use Rattle.ptu_shared.specs.{Opening.{HaveFailed}, Seats.{SeatCounts}, Turning.{Turns, after_rounds}}
 use Rattle.ptu_gm_messages.specs.Replies.{cancels_to}
@@ -31,8 +32,8 @@ CountsSends sent more sent' = (start : ℕ) → sent ≡ min start (2 ^ 128 - 1)
 -- what the lane that takes Delay_Reqs did in so many rounds: its port, its clock and how many receives failed, before and after; the
 -- port was sent nothing, and goes on to tell that
 pub record TookDelayReqs {P C : Type 0} (ports : Ports P) (clocks : Clocks C) (rounds : ℕ) (port port' : P) (clock clock' : C) (failed failed' : ℕ) : Type 0 where
-  pub gave : ¬ HasRisen (ports.faults port) (ports.faults port') → GaveFirst (64 * rounds) (ports.waiting port) (ports.waiting port')
-  pub took : Took ports clocks (64 * rounds) 0 port port' clock clock'
+  pub gave : ¬ HasRisen (ports.faults port) (ports.faults port') → GaveFirst (most * rounds) (ports.waiting port) (ports.waiting port')
+  pub took : Took ports clocks (most * rounds) 0 port port' clock clock'
   pub unsent : ports.sent port' ≡ ports.sent port
   pub missed : MissedFew ports rounds port port'
   pub failures : CountsFailures ports.counts_once (ports.faults port) (ports.faults port') failed failed'
@@ -118,20 +119,20 @@ pub record IsBeside {P C G R : Type 0} (old new : ControlLane P C G R) : Type 0 
   pub stopped : new.stopped ≡ old.stopped
 
 -- what waits of Signaling in a round was taken, and answered; where the count did not rise, up to 64 datagrams or all that waited
-pub record HasTaken {P C G R : Type 0} (ports : Ports P) (clocks : Clocks C) (greatest : ℕ) (config : GmConfig) (old new : ControlLane P C G R) : Type 0 where
+pub record TookSignaling {P C G R : Type 0} (ports : Ports P) (clocks : Clocks C) (greatest : ℕ) (config : GmConfig) (old new : ControlLane P C G R) : Type 0 where
   pub exchanges : List Exchange
-  pub few : length exchanges ≤ 64
+  pub few : length exchanges ≤ most
   pub answered : All (IsAnswered greatest config) exchanges
   pub missed : ℕ
   pub once : missed ≤ 1
   pub moved : HasMoved ports clocks config exchanges (replies config exchanges) (length exchanges) missed (taking_of old) (taking_of new)
-  pub front : ¬ HasRisen (ports.faults old.port) (ports.faults new.port) → GaveFirst 64 (ports.waiting old.port) (ports.waiting new.port)
-  pub most : new.seat.granted + new.seat.refused ≤ old.seat.granted + old.seat.refused + 2048
+  pub front : ¬ HasRisen (ports.faults old.port) (ports.faults new.port) → GaveFirst most (ports.waiting old.port) (ports.waiting new.port)
+  pub most : new.seat.granted + new.seat.refused ≤ old.seat.granted + old.seat.refused + 32 * most
   pub beside : IsBeside old new
 
 -- and behind that a datagram of the control port, where there is one; this order is left to be obeyed
 pub record HasHeard {P C G R : Type 0} (ports : Ports P) (clocks : Clocks C) (greatest : ℕ) (settings : GmSettings) (config : GmConfig) (old new : ControlLane P C G R) (order : Option Order) : Type 0 where
-  pub took : HasTaken ports clocks greatest config old new
+  pub took : TookSignaling ports clocks greatest config old new
   pub spoken : Option Arrival
   pub reply : Option Reply
   pub spoke : SpokenTo ports (listed spoken) (reply_sent reply) old.control new.control
@@ -177,7 +178,7 @@ pub record DidLaneRound {P C G R : Type 0} (ports : Ports P) (clocks : Clocks C)
   pub missed : ℕ
   pub once : missed ≤ 1
   pub moved : HasMoved ports clocks config round.exchanges (round_sends config (lane_at old) round) (round_moments settings (lane_at old) round) missed (taking_of old) (taking_of new)
-  pub front : ¬ HasRisen (ports.faults old.port) (ports.faults new.port) → GaveFirst 64 (ports.waiting old.port) (ports.waiting new.port)
-  pub most : new.seat.granted + new.seat.refused ≤ old.seat.granted + old.seat.refused + 2048
+  pub front : ¬ HasRisen (ports.faults old.port) (ports.faults new.port) → GaveFirst most (ports.waiting old.port) (ports.waiting new.port)
+  pub most : new.seat.granted + new.seat.refused ≤ old.seat.granted + old.seat.refused + 32 * most
   pub spoke : SpokenTo ports (listed round.spoken) (reply_sent round.reply) old.control new.control
   pub stopped : old.stopped ≡ false → new.stopped ≡ ends_with settings round

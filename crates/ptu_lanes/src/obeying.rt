@@ -7,7 +7,7 @@ ghost use Rattle.ptu_shared.specs.Seats.{no_verdicts};
 ghost use Rattle.ptu_lanes.specs.Crew.{IsFresh, ServedAs};
 ghost use Rattle.ptu_lanes.specs.Heard.{Hears, Leaves, SpokenTo, answer_sent};
 ghost use Rattle.ptu_lanes.specs.Orders.{peak_ordered};
-ghost use Rattle.ptu_lanes.specs.Stretches.{DidLaneRound, HasBegun, HasExecuted, HasHeard, HasObeyed, HasTaken};
+ghost use Rattle.ptu_lanes.specs.Stretches.{DidLaneRound, HasBegun, HasExecuted, HasHeard, HasObeyed, TookSignaling};
 
 use crate::changing::{capacity_with, change_capacity};
 use crate::lanes::{ControlLane, Rounds};
@@ -86,7 +86,7 @@ impl<P: Port + Send, L: Rates, G: Ledger, R: Ledger, W: Wait> Service<'_, P, L, 
         requires ledger { L.parts ≡ 4 }
         requires counts { (lane.seat.granted ≤ 2 ^ 55) × (lane.seat.refused ≤ 2 ^ 55) }
         ensures took { IfOk result
-            (HasTaken P.Port C.Clock L.most self.now.base.now.config.now lane) }
+            (TookSignaling P.Port C.Clock L.most self.now.base.now.config.now lane) }
         ensures control { IfOk result (λ new. new.control ≡ lane.control) }
     {
         let control = control_round(self, &mut lane.seat, &mut lane.port, &mut lane.clock)?;

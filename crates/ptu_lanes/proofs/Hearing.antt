@@ -1,0 +1,99 @@
+-- What was taken of a control port, and answered, one part after the other.
+use Rattle.std.proofs.Common.{◌≡◌, ◌∙◌, ℕ, ◌+◌, List, [], ◌∷◌, ◌++◌, length, take, refl, sym, ap, ap₂, subst, arith, Option, Some, None, Result, Ok, Err}
+use Rattle.std.specs.Prelude.{IfNone, IfSome, is_some, true}
+use Rattle.ptu_outside.specs.{declared.arrival.Arrival.{Arrival}, declared.port.Port.{Ghosts as Ports}, Departure.{Departure}}
+use Rattle.ptu_outside.specs.{Faults.{HasNotFallen, HasRisen}, Handed.{WasHanded}, HandsOver.{SentOf}, Telling.{IfTold, TellsOn, append_told}}
+use Rattle.ptu_outside.proofs.HandsOver.{not_fallen_both, not_fallen_none, sent_none, told_none}
+use Rattle.ptu_config.specs.declared.{settings.GmSettings.{GmSettings}, answer.Reply.{Reply}, command.Cause.{Cause}, command.Command.{Command}}
+use Rattle.ptu_config.specs.declared.command.Command.TheVariants as commands
+use Rattle.ptu_lanes.specs.declared.orders.Order.{Order}
+use Rattle.ptu_lanes.specs.Heard.{AnswersNow, Hears, IsReply, Spoke, SpokenTo, TookSpoken, WasAnswered, answer_sent, reply_to}
+use Rattle.ptu_lanes.specs.Orders.{left_of, listed, order_in}
+use Rattle.ptu_lanes.proofs.{Handing.{handed-append, handed_none, handed_of}, Taking.{given_more}}
+
+given_same : (told : Option (List Arrival)) → IfSome told (λ later. told ≡ Some ([] ++ later))
+given_same None = tt
+given_same (Some waited) = refl
+
+module _ {P : Type 0} (ports : Ports P) where
+  -- ---- one port
+
+  -- this was taken of it, and nothing was sent
+  pub spoke_taken : (old new : P) (spoken : Option Arrival) → TookSpoken ports old new spoken → Spoke ports (listed spoken) [] old new
+  spoke_taken old new spoken t = record {
+    given = t.given;
+    sent = 0;
+    handed = record {
+      part = record {
+        some = subst (λ told. SentOf (ports.sent old) told [] 0) (sym t.unsent) (sent_none (ports.sent old));
+        all = λ still. subst (λ told. IfTold told (append_told (ports.sent old) [])) (sym t.unsent) (told_none (ports.sent old));
+      };
+      goes_on = λ still few. subst (λ told. TellsOn (ports.sent old) told) (sym t.unsent) (λ tells. tells);
+    };
+    no_fall = t.failures.no_fall;
+  }
+
+  -- it was handed an answer, and nothing was taken of it
+  pub spoke_answered : (old new : P) (reply : Reply) → WasAnswered ports old new reply → Spoke ports [] (answer_sent reply ∷ []) old new
+  spoke_answered old new reply a = record {
+    given = subst (λ told. IfSome told (λ later. ports.waiting old ≡ Some ([] ++ later))) (sym a.hands.waiting) (given_same (ports.waiting old));
+    sent = a.sent;
+    handed = handed_of ports old new (answer_sent reply ∷ []) a.sent a.failed a.hands;
+    no_fall = a.hands.no_fall;
+  }
+
+  -- ---- a port that may not be there
+
+  pub spoken_none : (control : Option P) → SpokenTo ports [] [] control control
+  spoken_none None = refl
+  spoken_none (Some port) = record {
+    given = given_same (ports.waiting port);
+    sent = 0;
+    handed = handed_none ports port;
+    no_fall = not_fallen_none (ports.faults port);
+  }
+
+  pub spoken-append : (ss ts : List Arrival) (as bs : List Departure) (a b c : Option P) → SpokenTo ports ss as a b → SpokenTo ports ts bs b c →
+      SpokenTo ports (ss ++ ts) (as ++ bs) a c
+  spoken-append ss ts as bs None None None p q = ap₂ (λ x y. x ++ y) p q
+  spoken-append ss ts as bs (Some a) (Some b) (Some c) p q = record {
+    given = given_more ss ts (ports.waiting a) (ports.waiting b) (ports.waiting c) p.given q.given;
+    sent = p.sent + q.sent;
+    handed = handed-append ports a b c as bs p.sent q.sent p.no_fall q.no_fall p.handed q.handed;
+    no_fall = not_fallen_both (ports.faults a) (ports.faults b) (ports.faults c) p.no_fall q.no_fall;
+  }
+  spoken-append ss ts as bs None None (Some c) p q = absurd q
+  spoken-append ss ts as bs None (Some b) c p q = absurd p
+  spoken-append ss ts as bs (Some a) None c p q = absurd p
+  spoken-append ss ts as bs (Some a) (Some b) None p q = absurd q
+
+  pub spoken_as : (ss ts : List Arrival) (as bs : List Departure) (a b : Option P) → ss ≡ ts → as ≡ bs → SpokenTo ports ss as a b → SpokenTo ports ts bs a b
+  spoken_as ss ts as bs a b e f p = subst (λ x. SpokenTo ports x bs a b) e (subst (λ x. SpokenTo ports ss x a b) f p)
+
+  -- where nothing is there, nothing is ordered
+  listed_none : (spoken : Option Arrival) → listed spoken ≡ [] → spoken ≡ None
+  listed_none None is = refl
+  listed_none (Some arrival) is = absurd (cc is)
+
+  pub unheard : (spoken : Option Arrival) (answers : List Departure) (b : Option P) → SpokenTo ports (listed spoken) answers None b → spoken ≡ None
+  unheard spoken answers None p = listed_none spoken p
+  unheard spoken answers (Some b) p = absurd p
+
+  pub ordered_told : (settings : GmSettings) (spoken : Option Arrival) (order : Order) (answers : List Departure) (a b : Option P) →
+      Some order ≡ left_of (order_in settings spoken) → SpokenTo ports (listed spoken) answers a b → is_some a ≡ true
+  ordered_told settings spoken order answers (Some a) b is p = refl
+  ordered_told settings spoken order answers None b is p =
+      let none : left_of (order_in settings spoken) ≡ None = ap (λ s. left_of (order_in settings s)) (unheard spoken answers b p) in
+      absurd (cc (is, none))
+
+-- ---- what is answered
+
+-- an order that was left is answered behind the meeting
+pub replied_by : (round class in_force : ℕ) (shed : List _) (asked : Option (Result Command Cause)) (order : Order) (reply : Option Reply) → Some order ≡ left_of asked →
+    reply ≡ Some (reply_to order shed) → IsReply round class in_force shed asked reply
+replied_by round class in_force shed None order reply left is = absurd (cc left)
+replied_by round class in_force shed (Some (Err cause)) order reply left is = absurd (cc left)
+replied_by round class in_force shed (Some (Ok commands.Status)) order reply left is = absurd (cc left)
+replied_by round class in_force shed (Some (Ok (commands.Class told))) order reply left is = is ∙ ap (λ o. Some (reply_to o shed)) (let same : order ≡ _ = cc left in same)
+replied_by round class in_force shed (Some (Ok (commands.Capacity told))) order reply left is = is ∙ ap (λ o. Some (reply_to o shed)) (let same : order ≡ _ = cc left in same)
+replied_by round class in_force shed (Some (Ok (commands.Stop cancels))) order reply left is = is ∙ ap (λ o. Some (reply_to o shed)) (let same : order ≡ _ = cc left in same)
