@@ -198,24 +198,3 @@ rounds_are settings (suc count) (d ∷ later) (a ∷ waiting) all (one, rest) =
     by_last (is_stop_order (order_in settings (Some a))) settings count (rounds_until settings count waiting) later
     (subst (λ s. EndsOr (is_stop_order (order_in settings s)) later (AreAll settings count later)) one all)
     (λ others. rounds_are settings count later waiting others rest)
-
--- ---- all rounds
-
-abbrev pub GoOn : GmSettings → List DoneRound → Type 0
-GoOn settings ds = AllByRecursion (λ d. is_last settings d ≡ false) ds
-
-pub go_on-push : (settings : GmSettings) (ds : List DoneRound) (d : DoneRound) → GoOn settings ds → is_last settings d ≡ false → GoOn settings (ds ++ d ∷ [])
-go_on-push settings [] d h one = (one, tt)
-go_on-push settings (x ∷ ds) d (a, h) one = (a, go_on-push settings ds d h one)
-
-pub all_gone : (settings : GmSettings) (ds : List DoneRound) → GoOn settings ds → AreAll settings (length ds) ds
-all_gone settings [] h = refl
-all_gone settings (x ∷ ds) (a, h) = subst (λ b. EndsOr b ds (AreAll settings (length ds) ds)) (sym a) (all_gone settings ds h)
-
-pub one_last : (settings : GmSettings) (ds : List DoneRound) (d : DoneRound) (count : ℕ) → GoOn settings ds → is_last settings d ≡ true → length ds + 1 ≤ count →
-    AreAll settings count (ds ++ d ∷ [])
-one_last settings [] d zero h last le = absurd (omega arith)
-one_last settings [] d (suc count) h last le = subst (λ b. EndsOr b [] (AreAll settings count [])) (sym last) refl
-one_last settings (x ∷ ds) d zero h last le = absurd (omega arith)
-one_last settings (x ∷ ds) d (suc count) (a, h) last le =
-    subst (λ b. EndsOr b (ds ++ d ∷ []) (AreAll settings count (ds ++ d ∷ []))) (sym a) (one_last settings ds d count h last (omega (arith, le)))

@@ -18,7 +18,8 @@ use Rattle.ptu_daemon.specs.Commands.{AreAll, AreCounted, AreRoundsOf, AreSpoken
 use Rattle.ptu_daemon.specs.Events.{Given, change_in, round_given, round_with, taking, turns}
 use Rattle.ptu_daemon.specs.Obeying.{DidAll, DidRounds, DidWhole, HandledAt, Waits}
 use Rattle.ptu_daemon.specs.{Ran.{DidRound, IsSmall, Ran, TookChannel, five, standing_as}, Sends.{Standing, after_all, sends_by}}
-use Rattle.ptu_daemon.proofs.Commands.{GoOn, all_gone, answers_from-push, are_counted-push, are_rounds-push, are_spoken-push, events_of-push, go_on-push, happens_from-push, have_happened-push, many_done, many_from-append, one_last, rounds_of-push, spoken_of-push, within-push}
+use Rattle.ptu_lanes.proofs.OrderedRounds.{NoneEnds, last_ends, none_ended, none_ends-push}
+use Rattle.ptu_daemon.proofs.Commands.{answers_from-push, are_counted-push, are_rounds-push, are_spoken-push, events_of-push, happens_from-push, have_happened-push, many_done, many_from-append, rounds_of-push, spoken_of-push, within-push}
 use Rattle.ptu_daemon.proofs.Handling.{all_within, five_each, handled_more, handled_same}
 use Rattle.ptu_daemon.proofs.Running.{after_all-append, after_is, gives_more, gives_none, none_happened, ran_as, ran_as_with, ran_more, ran_more_with, ran_none}
 
@@ -418,7 +419,7 @@ module _ {P C : Type 0} (ports : Ports P) (clocks : Clocks C) where
   -- after so many rounds, none of which was told to be the last
   pub record IsGoing (settings : GmSettings) (old now : Daemon P C) (port port' : Option P) (rounds : ℕ) (tally : Tally) : Type 0 where
     pub did : DidRounds ports clocks settings rounds old now port port' tally
-    pub going : GoOn settings did.done
+    pub going : NoneEnds (is_last settings) did.done
     pub small : IsSmall (rounds * 257) tally
 
   pub going_none : (settings : GmSettings) (daemon : Daemon P C) (port : Option P) (tally : Tally) → (tally.sent ≡ 0) × (tally.failed ≡ 0) →
@@ -427,7 +428,7 @@ module _ {P C : Type 0} (ports : Ports P) (clocks : Clocks C) where
       let made = did_none settings daemon port tally none in
       record {
         did = made.0;
-        going = subst (GoOn settings) (sym made.1) tt;
+        going = subst (NoneEnds (is_last settings)) (sym made.1) tt;
         small = (omega (arith, none.0), omega (arith, none.1));
       }
 
@@ -445,7 +446,7 @@ module _ {P C : Type 0} (ports : Ports P) (clocks : Clocks C) where
     pub going_more : after.stops ≡ false → IsSmall ((before + 1) * 257) after.tally → IsGoing settings old new port0 port' (before + 1) after.tally
     going_more goes small = record {
       did = made.0;
-      going = subst (GoOn settings) (sym made.1) (go_on-push settings h.did.done _ h.going (stops_is ∙ goes));
+      going = subst (NoneEnds (is_last settings)) (sym made.1) (none_ends-push (is_last settings) h.did.done _ h.going (stops_is ∙ goes));
       small = small;
     }
 
@@ -454,7 +455,7 @@ module _ {P C : Type 0} (ports : Ports P) (clocks : Clocks C) where
     ended stops le = record {
       did = made.0;
       all = subst (AreAll settings (all_rounds settings)) (sym made.1)
-          (one_last settings h.did.done _ (all_rounds settings) h.going (stops_is ∙ stops) (omega (arith, le, many_done h.did.done before h.did.taken)));
+          (last_ends (is_last settings) h.did.done _ (all_rounds settings) h.going (stops_is ∙ stops) (omega (arith, le, many_done h.did.done before h.did.taken)));
     }
 
   -- all were done
@@ -462,5 +463,5 @@ module _ {P C : Type 0} (ports : Ports P) (clocks : Clocks C) where
       rounds ≡ all_rounds settings → DidAll ports clocks settings rounds old now port port' tally
   all_done settings old now port port' rounds tally h is = record {
     did = h.did;
-    all = subst (λ n. AreAll settings n h.did.done) (many_done h.did.done rounds h.did.taken ∙ is) (all_gone settings h.did.done h.going);
+    all = subst (λ n. AreAll settings n h.did.done) (many_done h.did.done rounds h.did.taken ∙ is) (none_ended (is_last settings) h.did.done h.going);
   }

@@ -7,6 +7,7 @@ mod Stretching
 mod Moving
 mod Hearing
 mod OneRound
+mod Beginning
 mod AllRounds
 mod Controlled
 mod Outcomes

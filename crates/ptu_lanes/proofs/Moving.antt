@@ -3,7 +3,7 @@ use Rattle.std.proofs.Common.{◌≡◌, ◌∙◌, ℕ, ◌+◌, ◌*◌, ◌-�
 use Rattle.std.specs.Prelude.{IfSome}
 use Rattle.std.proofs.lemmas.List.{map-append, Sums.{sum_by-append}}
 use Rattle.ptu_outside.specs.declared.{arrival.Arrival.{Arrival}, clock.Clock.{Ghosts as Clocks}, port.Port.{Ghosts as Ports}}
-use Rattle.ptu_outside.specs.{Departure.{Departure}, Faults.{HasRisen}, HandsOver.{HandsOver}}
+use Rattle.ptu_outside.specs.{Departure.{Departure}, Handed.{WasHanded}, HandsOver.{HandsOver}}
 use Rattle.ptu_profile.specs.declared.grandmaster.GmConfig.{GmConfig}
 use Rattle.ptu_shared.specs.{Opening.{HaveFailed}, Seats.{SeatCounts}}
 use Rattle.ptu_shared.proofs.Failing.{failed-append, failed_hands, failed_none}
@@ -116,4 +116,22 @@ module _ {P C : Type 0} (ports : Ports P) (clocks : Clocks C) (config : GmConfig
     faults = x.failures;
     counts = counts_more ports.counts_once (ports.faults a.port) (ports.faults b.port) a.failures failed b.failures x.failures is;
     sums = λ start was. omega (arith, was, goes);
+  }
+
+  -- so many moments were taken, and nothing else was done
+  pub moved_ticked : (m : ℕ) (a b : Taking P C) → b.port ≡ a.port → b.seat ≡ a.seat → b.gone ≡ a.gone → b.failures ≡ a.failures →
+      PassedBy m (clocks.moments a.clock) (clocks.moments b.clock) → HasMoved ports clocks config [] [] m 0 a b
+  moved_ticked m a b port seat gone failures passed = record {
+    given = subst (λ p. IfSome (ports.waiting p) (λ later. ports.waiting a.port ≡ Some (datagrams [] ++ later))) (sym port) (given_none (ports.waiting a.port));
+    granted = omega (arith, ap (λ (s : SeatCounts). s.granted) seat);
+    counted = omega (arith, ap (λ (s : SeatCounts). s.granted) seat, ap (λ (s : SeatCounts). s.refused) seat);
+    passed = passed;
+    sent = 0;
+    handed = subst (λ p. WasHanded ports a.port p [] 0) (sym port) (handed_none ports a.port);
+    failed = 0;
+    each = omega arith;
+    faults = subst (λ p. HaveFailed ports.counts_once 0 (ports.faults a.port) (ports.faults p)) (sym port) (failed_none ports.counts_once (ports.faults a.port));
+    counts = λ start f. subst (λ n. HaveFailed ports.counts_once n start (ports.faults b.port)) (sym failures)
+        (subst (λ p. HaveFailed ports.counts_once a.failures start (ports.faults p)) (sym port) f);
+    sums = λ start was. omega (arith, was, gone);
   }
