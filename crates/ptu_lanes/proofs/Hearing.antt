@@ -2,14 +2,17 @@
 use Rattle.std.proofs.Common.{◌≡◌, ◌∙◌, ℕ, ◌+◌, List, [], ◌∷◌, ◌++◌, length, take, refl, sym, ap, ap₂, subst, arith, Option, Some, None, Result, Ok, Err}
 use Rattle.std.specs.Prelude.{IfNone, IfSome, is_some, true}
 use Rattle.ptu_outside.specs.{declared.arrival.Arrival.{Arrival}, declared.port.Port.{Ghosts as Ports}, Departure.{Departure}}
-use Rattle.ptu_outside.specs.{Faults.{HasNotFallen, HasRisen}, Handed.{WasHanded}, HandsOver.{SentOf}, Telling.{IfTold, TellsOn, append_told}}
-use Rattle.ptu_outside.proofs.HandsOver.{not_fallen_both, not_fallen_none, sent_none, told_none}
+use Rattle.ptu_outside.specs.{Faults.{HasNotFallen, HasRisen, one_more}, HandsOver.{SentOf}}
+use Rattle.ptu_outside.specs.Telling.{IfTold, IsEmptyTold, IsFirstTold, TellsOn, append_told, rest_told}
+use Rattle.ptu_outside.proofs.HandsOver.{just_once, not_fallen_both, not_fallen_none, sent_none, told_none}
+use Rattle.ptu_shared.specs.Opening.{HaveFailed}
+use Rattle.ptu_shared.proofs.Failing.{failed_none}
 use Rattle.ptu_config.specs.declared.{settings.GmSettings.{GmSettings}, answer.Reply.{Reply}, command.Cause.{Cause}, command.Command.{Command}}
 use Rattle.ptu_config.specs.declared.command.Command.TheVariants as commands
 use Rattle.ptu_lanes.specs.declared.orders.Order.{Order}
 use Rattle.ptu_lanes.specs.Heard.{AnswersNow, Hears, IsReply, Spoke, SpokenTo, TookSpoken, WasAnswered, answer_sent, reply_to}
 use Rattle.ptu_lanes.specs.Orders.{left_of, listed, order_in}
-use Rattle.ptu_lanes.proofs.{Handing.{handed-append, handed_none, handed_of}, Taking.{given_more}}
+use Rattle.ptu_lanes.proofs.{Handing.{handed-append, handed_none, handed_of}, Taking.{first_given, given_more, kept_is}}
 
 given_same : (told : Option (List Arrival)) → IfSome told (λ later. told ≡ Some ([] ++ later))
 given_same None = tt
@@ -97,3 +100,41 @@ replied_by round class in_force shed (Some (Ok commands.Status)) order reply lef
 replied_by round class in_force shed (Some (Ok (commands.Class told))) order reply left is = is ∙ ap (λ o. Some (reply_to o shed)) (let same : order ≡ _ = cc left in same)
 replied_by round class in_force shed (Some (Ok (commands.Capacity told))) order reply left is = is ∙ ap (λ o. Some (reply_to o shed)) (let same : order ≡ _ = cc left in same)
 replied_by round class in_force shed (Some (Ok (commands.Stop cancels))) order reply left is = is ∙ ap (λ o. Some (reply_to o shed)) (let same : order ≡ _ = cc left in same)
+
+-- ---- what is received of a control port
+
+module _ {P : Type 0} (ports : Ports P) where
+  left_none : (waiting left : Option (List Arrival)) → IsEmptyTold waiting → IfTold left waiting → IfSome left (λ l. l ≡ [])
+  left_none waiting None empty told = tt
+  left_none None (Some left) empty told = absurd (cc told)
+  left_none (Some waited) (Some left) empty told = let same : waited ≡ left = cc told in sym same ∙ empty
+
+  pub took_one : (old new : P) (d : Arrival) → IsFirstTold (ports.waiting old) d → IfTold (ports.waiting new) (rest_told (ports.waiting old)) →
+      ports.sent new ≡ ports.sent old → ports.faults new ≡ ports.faults old → TookSpoken ports old new (Some d)
+  took_one old new d first rest unsent quiet = record {
+    given = first_given d (ports.waiting old) (ports.waiting new) first rest;
+    drained = λ still. tt;
+    unsent = unsent;
+    failed = 0;
+    failures = subst (λ n. HaveFailed ports.counts_once 0 (ports.faults old) n) (sym quiet) (failed_none ports.counts_once (ports.faults old));
+  }
+
+  pub took_none : (old new : P) → IsEmptyTold (ports.waiting old) → IfTold (ports.waiting new) (ports.waiting old) →
+      ports.sent new ≡ ports.sent old → ports.faults new ≡ ports.faults old → TookSpoken ports old new None
+  took_none old new empty left unsent quiet = record {
+    given = kept_is (ports.waiting old) (ports.waiting new) left;
+    drained = λ still. left_none (ports.waiting old) (ports.waiting new) empty left;
+    unsent = unsent;
+    failed = 0;
+    failures = subst (λ n. HaveFailed ports.counts_once 0 (ports.faults old) n) (sym quiet) (failed_none ports.counts_once (ports.faults old));
+  }
+
+  pub took_failed : (old new : P) → IfTold (ports.waiting new) (ports.waiting old) → ports.sent new ≡ ports.sent old → HasRisen (ports.faults old) (ports.faults new) →
+      (ports.counts_once ≡ true → ports.faults new ≡ one_more (ports.faults old)) → HasNotFallen (ports.faults old) (ports.faults new) → TookSpoken ports old new None
+  took_failed old new kept unsent risen once no_fall = record {
+    given = kept_is (ports.waiting old) (ports.waiting new) kept;
+    drained = λ still. absurd (still risen);
+    unsent = unsent;
+    failed = 1;
+    failures = record { risen = risen; just = λ is. just_once (ports.faults old) (ports.faults new) (once is); quiet = λ none. absurd (omega (arith, none)); no_fall = no_fall };
+  }
