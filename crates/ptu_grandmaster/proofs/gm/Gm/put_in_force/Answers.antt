@@ -35,6 +35,6 @@ returns-clause-changed g c =
           let many : c.send_cancels-sends.result.sent + c.send_cancels-sends.result.failed ≡ length (shed_grants history x c.args.capacity) =
           c.send_cancels-sends.ensures.count ∙ ap length (c.list.ensures ∙ c.in_ok-resized.ensures.shed opening history s.decided)
           ∙ length-map (shed_grants history at c.args.capacity) shed_of ∙ ap (λ y. length (shed_grants history y c.args.capacity)) is in
-          after_change opening _ _ history x c.args.capacity _ (shed_grants history x c.args.capacity) s refl refl c.later-self-inside.ensures many
+          after_change opening _ _ history x c.args.capacity _ (shed_grants history x c.args.capacity) s refl refl c.sequence_after-self-inside.ensures many
           (subst Stands is (c.in_ok-resized.ensures.stands opened history s.decided));
     })
