@@ -1,7 +1,8 @@
 -- The changes of capacity and the orders in a round, as parts of it.
-use Rattle.std.proofs.Common.{◌≡◌, ◌∙◌, ℕ, ◌+◌, ◌-◌, ◌^◌, ◌≤◌, ◌<◌, ◌%◌, min, Bool, true, false, List, [], length, refl, sym, ap, ap₂, subst, arith, Option, Some, None}
-use Rattle.std.specs.Prelude.{◌×◌, ◌&&◌, ◌==◌, if◌then◌else◌, is_some, nat_lt, nat_le, max}
+use Rattle.std.proofs.Common.{◌≡◌, ◌∙◌, ℕ, ◌+◌, ◌-◌, ◌^◌, ◌≤◌, ◌<◌, ◌%◌, min, Bool, true, false, List, [], ◌∷◌, length, refl, sym, ap, ap₂, subst, arith, Option, Some, None, Result, Ok, Err}
+use Rattle.std.specs.Prelude.{OnOk, ◌&&◌, ◌==◌, if◌then◌else◌, is_some, nat_lt, nat_le, max}
 use Rattle.std.proofs.{Math.Nat.{mod-eq_of_lt}, lemmas.Bool.{eqb-true, le-leb, lt-ltb}}
+use Rattle.ptu_units.specs.Limits.{greatest_capacity}
 use Rattle.ptu_units.specs.declared.{client.Client.{Client}, kind.Kind.{Kind}}
 use Rattle.ptu_outside.specs.declared.{clock.Clock.{Ghosts as Clocks}, port.Port.{Ghosts as Ports}}
 use Rattle.ptu_outside.specs.HandsOver.{HandsOver}
@@ -13,7 +14,7 @@ use Rattle.ptu_lanes.specs.declared.{lanes.ControlLane.{ControlLane}, orders.Ord
 use Rattle.ptu_lanes.specs.declared.orders.Order.TheVariants as orders
 use Rattle.ptu_lanes.specs.Changing.{begins_changed, change_of, greater_of, later_of, new_with, peak_capacity}
 use Rattle.ptu_lanes.specs.Heard.{SpokenTo, answer_sent, reply_to}
-use Rattle.ptu_lanes.specs.Orders.{capacity_by, class_by, moments_by, moments_if, sequence_on, stops_by}
+use Rattle.ptu_lanes.specs.Orders.{capacity_by, class_by, moments_by, moments_if, peak_ordered, sequence_on, stops_by}
 use Rattle.ptu_lanes.specs.Stretches.{HasBegun, HasExecuted, HasObeyed, HasResized, taking_of}
 use Rattle.ptu_lanes.specs.Waiting.{PassedBy}
 use Rattle.ptu_lanes.proofs.{Hearing.{spoken_none}, Moving.{moved_as, moved_hands, moved_none, moved_ticked}}
@@ -25,6 +26,11 @@ begins_is settings before = of (settings.change_round == before + 1) settings.ne
     of : (b : Bool) (c : Option ℕ) → (b && is_some c) ≡ is_some (if b then c else None)
     of true c = refl
     of false c = refl
+
+-- what holds where a call succeeds
+pub on_ok_is : {A E X : Type 0} (r : Result A E) (x : A) → r ≡ Ok x → OnOk r X → X
+on_ok_is (Ok y) x is h = h
+on_ok_is (Err e) x is h = absurd (cc is)
 
 -- no CANCEL is none in the numbers
 none_on : (sequence : ℕ) → sequence < 65536 → sequence_on sequence [] ≡ sequence
@@ -196,14 +202,19 @@ module _ {P C G R : Type 0} (ports : Ports P) (clocks : Clocks C) (config : GmCo
 pub new_within : (settings : GmSettings) (before capacity : ℕ) → new_with settings before ≡ Some capacity → before < all_rounds settings → capacity ≤ peak_capacity settings
 new_within settings before capacity some few = of (settings.change_round == before + 1) refl some
   where
+    greatest : (change : Option ℕ) → change ≡ Some capacity → capacity ≤ greater_of settings.capacity change
+    greatest None is = absurd (cc is)
+    greatest (Some later) is = let same : later ≡ capacity = cc is in omega (arith, same)
+
     of : (b : Bool) → (settings.change_round == before + 1) ≡ b → (if b then settings.new_capacity else None) ≡ Some capacity → capacity ≤ peak_capacity settings
-    of false no is = absurd (cc is)
-    of true yes is =
-        let round : settings.change_round ≡ before + 1 = eqb-true settings.change_round (before + 1) yes in
+    of false other is = absurd (cc is)
+    of true same is =
+        let round : settings.change_round ≡ before + 1 = eqb-true settings.change_round (before + 1) same in
         let change : change_of settings ≡ Some capacity =
         ap₂ (λ a b. if a && b then settings.new_capacity else None) (lt-ltb 0 settings.change_round (omega (arith, round))) (le-leb settings.change_round (all_rounds settings) (omega (arith, round, few))) ∙ is in
         greatest (change_of settings) change
 
-    greatest : (change : Option ℕ) → change ≡ Some capacity → capacity ≤ greater_of settings.capacity change
-    greatest None is = absurd (cc is)
-    greatest (Some later) is = let same : later ≡ capacity = cc is in omega (arith, same)
+-- nor than by the settings, or by orders where they may come
+pub ordered_within : (told : Bool) (settings : GmSettings) (capacity : ℕ) → capacity ≤ peak_capacity settings → capacity ≤ greatest_capacity → capacity ≤ peak_ordered told settings
+ordered_within true settings capacity few all = all
+ordered_within false settings capacity few all = few

@@ -1,6 +1,7 @@
 -- What was taken of a control port, and answered, one part after the other.
 use Rattle.std.proofs.Common.{◌≡◌, ◌∙◌, ℕ, ◌+◌, List, [], ◌∷◌, ◌++◌, length, take, refl, sym, ap, ap₂, subst, arith, Option, Some, None, Result, Ok, Err}
 use Rattle.std.specs.Prelude.{IfNone, IfSome, is_some, true}
+use Rattle.ptu_units.specs.declared.{client.Client.{Client}, kind.Kind.{Kind}}
 use Rattle.ptu_outside.specs.{declared.arrival.Arrival.{Arrival}, declared.port.Port.{Ghosts as Ports}, Departure.{Departure}}
 use Rattle.ptu_outside.specs.{Faults.{HasNotFallen, HasRisen, one_more}, HandsOver.{SentOf}}
 use Rattle.ptu_outside.specs.Telling.{IfTold, IsEmptyTold, IsFirstTold, TellsOn, append_told, rest_told}
@@ -10,6 +11,7 @@ use Rattle.ptu_shared.proofs.Failing.{failed_none}
 use Rattle.ptu_config.specs.declared.{settings.GmSettings.{GmSettings}, answer.Reply.{Reply}, command.Cause.{Cause}, command.Command.{Command}}
 use Rattle.ptu_config.specs.declared.command.Command.TheVariants as commands
 use Rattle.ptu_lanes.specs.declared.orders.Order.{Order}
+use Rattle.ptu_lanes.specs.declared.orders.Order.TheVariants as orders
 use Rattle.ptu_lanes.specs.Heard.{AnswersNow, Hears, IsReply, Spoke, SpokenTo, TookSpoken, WasAnswered, answer_sent, reply_to}
 use Rattle.ptu_lanes.specs.Orders.{left_of, listed, order_in}
 use Rattle.ptu_lanes.proofs.{Handing.{handed-append, handed_none, handed_of}, Taking.{first_given, given_more, kept_is}}
@@ -56,22 +58,22 @@ module _ {P : Type 0} (ports : Ports P) where
     no_fall = not_fallen_none (ports.faults port);
   }
 
-  pub spoken-append : (ss ts : List Arrival) (as bs : List Departure) (a b c : Option P) → SpokenTo ports ss as a b → SpokenTo ports ts bs b c →
-      SpokenTo ports (ss ++ ts) (as ++ bs) a c
-  spoken-append ss ts as bs None None None p q = ap₂ (λ x y. x ++ y) p q
-  spoken-append ss ts as bs (Some a) (Some b) (Some c) p q = record {
+  pub spoken-append : (ss ts : List Arrival) (ds es : List Departure) (a b c : Option P) → SpokenTo ports ss ds a b → SpokenTo ports ts es b c →
+      SpokenTo ports (ss ++ ts) (ds ++ es) a c
+  spoken-append ss ts ds es None None None p q = ap₂ (λ x y. x ++ y) p q
+  spoken-append ss ts ds es (Some a) (Some b) (Some c) p q = record {
     given = given_more ss ts (ports.waiting a) (ports.waiting b) (ports.waiting c) p.given q.given;
     sent = p.sent + q.sent;
-    handed = handed-append ports a b c as bs p.sent q.sent p.no_fall q.no_fall p.handed q.handed;
+    handed = handed-append ports a b c ds es p.sent q.sent p.no_fall q.no_fall p.handed q.handed;
     no_fall = not_fallen_both (ports.faults a) (ports.faults b) (ports.faults c) p.no_fall q.no_fall;
   }
-  spoken-append ss ts as bs None None (Some c) p q = absurd q
-  spoken-append ss ts as bs None (Some b) c p q = absurd p
-  spoken-append ss ts as bs (Some a) None c p q = absurd p
-  spoken-append ss ts as bs (Some a) (Some b) None p q = absurd q
+  spoken-append ss ts ds es None None (Some c) p q = absurd q
+  spoken-append ss ts ds es None (Some b) c p q = absurd p
+  spoken-append ss ts ds es (Some a) None c p q = absurd p
+  spoken-append ss ts ds es (Some a) (Some b) None p q = absurd q
 
-  pub spoken_as : (ss ts : List Arrival) (as bs : List Departure) (a b : Option P) → ss ≡ ts → as ≡ bs → SpokenTo ports ss as a b → SpokenTo ports ts bs a b
-  spoken_as ss ts as bs a b e f p = subst (λ x. SpokenTo ports x bs a b) e (subst (λ x. SpokenTo ports ss x a b) f p)
+  pub spoken_as : (ss ts : List Arrival) (ds es : List Departure) (a b : Option P) → ss ≡ ts → ds ≡ es → SpokenTo ports ss ds a b → SpokenTo ports ts es a b
+  spoken_as ss ts ds es a b e f p = subst (λ x. SpokenTo ports x es a b) e (subst (λ x. SpokenTo ports ss x a b) f p)
 
   -- where nothing is there, nothing is ordered
   listed_none : (spoken : Option Arrival) → listed spoken ≡ [] → spoken ≡ None
@@ -92,14 +94,14 @@ module _ {P : Type 0} (ports : Ports P) where
 -- ---- what is answered
 
 -- an order that was left is answered behind the meeting
-pub replied_by : (round class in_force : ℕ) (shed : List _) (asked : Option (Result Command Cause)) (order : Order) (reply : Option Reply) → Some order ≡ left_of asked →
+pub replied_by : (round class in_force : ℕ) (shed : List (Client × Kind)) (asked : Option (Result Command Cause)) (order : Order) (reply : Option Reply) → Some order ≡ left_of asked →
     reply ≡ Some (reply_to order shed) → IsReply round class in_force shed asked reply
 replied_by round class in_force shed None order reply left is = absurd (cc left)
 replied_by round class in_force shed (Some (Err cause)) order reply left is = absurd (cc left)
 replied_by round class in_force shed (Some (Ok commands.Status)) order reply left is = absurd (cc left)
-replied_by round class in_force shed (Some (Ok (commands.Class told))) order reply left is = is ∙ ap (λ o. Some (reply_to o shed)) (let same : order ≡ _ = cc left in same)
-replied_by round class in_force shed (Some (Ok (commands.Capacity told))) order reply left is = is ∙ ap (λ o. Some (reply_to o shed)) (let same : order ≡ _ = cc left in same)
-replied_by round class in_force shed (Some (Ok (commands.Stop cancels))) order reply left is = is ∙ ap (λ o. Some (reply_to o shed)) (let same : order ≡ _ = cc left in same)
+replied_by round class in_force shed (Some (Ok (commands.Class told))) order reply left is = let same : order ≡ orders.Class told = cc left in is ∙ ap (λ o. Some (reply_to o shed)) same
+replied_by round class in_force shed (Some (Ok (commands.Capacity told))) order reply left is = let same : order ≡ orders.Capacity told = cc left in is ∙ ap (λ o. Some (reply_to o shed)) same
+replied_by round class in_force shed (Some (Ok (commands.Stop cancels))) order reply left is = let same : order ≡ orders.Stop cancels = cc left in is ∙ ap (λ o. Some (reply_to o shed)) same
 
 -- ---- what is received of a control port
 

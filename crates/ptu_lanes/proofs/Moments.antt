@@ -122,9 +122,10 @@ turned_with clocks rounds done clock clock' turns turns' h (inr is) = subst (λ 
 turned_with clocks rounds done clock clock' turns turns' h (inl none) =
     let nothing : turns ≡ no_turns = no_turns_behind done turns (sym h.turned ∙ none) in
     let no_rights : rights turns ≡ 0 = ap rights nothing in
+    let none_of : 0 * done ≡ 0 * rounds = omega arith in
     record {
       moments = passed_as (rights turns * done) (rights turns * rounds) (clocks.moments clock) (clocks.moments clock')
-          (ap (λ n. n * done) no_rights ∙ sym (ap (λ n. n * rounds) no_rights)) h.moments;
+          (ap (λ n. n * done) no_rights ∙ none_of ∙ sym (ap (λ n. n * rounds) no_rights)) h.moments;
       turned = none ∙ sym (ap (after_rounds rounds) nothing);
     }
 

@@ -13,10 +13,10 @@ use Rattle.ptu_gm_messages.specs.Replies.{cancels_to}
 use Rattle.ptu_config.specs.declared.{settings.GmSettings.{GmSettings}, answer.Reply.{Reply}, command.Cause.{Cause}, command.Command.{Command}}
 use Rattle.ptu_lanes.specs.declared.{lanes.ControlLane.{ControlLane}, orders.Order.{Order}}
 use Rattle.ptu_lanes.specs.Changing.{begins_changed, later_of, new_with}
-use Rattle.ptu_lanes.specs.Heard.{AnswersNow, IsLaneRound, IsReply, SpokenTo, reply_sent}
+use Rattle.ptu_lanes.specs.Heard.{AnswersNow, Hears, IsLaneRound, IsReply, Leaves, SpokenTo, reply_sent}
 use Rattle.ptu_lanes.specs.Orders.{LaneAt, LaneRound, at_next, capacity_by, class_by, left_of, listed, moments_by, moments_if, order_in, round_moments, round_sends, sequence_on, stops_by}
 use Rattle.ptu_lanes.specs.Rounds.{Exchange, datagrams, replies}
-use Rattle.ptu_lanes.specs.Stretches.{DidLaneRound, HasBegun, HasHeard, HasMoved, HasObeyed, RepliesTo, Taking, lane_at, taking_of}
+use Rattle.ptu_lanes.specs.Stretches.{DidLaneRound, HasBegun, HasHeard, HasMoved, HasObeyed, RepliesTo, TookSignaling, lane_at, taking_of}
 use Rattle.ptu_lanes.specs.Waiting.{GaveFirst}
 use Rattle.ptu_lanes.proofs.{Hearing.{replied_by, spoken-append, spoken_as}, Moving.{moved-append, moved_as}}
 
@@ -137,3 +137,33 @@ module _ {P C G R : Type 0} (ports : Ports P) (clocks : Clocks C) (greatest : �
       still_between : ¬ HasRisen (ports.faults l0.port) (ports.faults l3.port) → ¬ HasRisen (ports.faults l1.port) (ports.faults l2.port)
       still_between still rises = still (rises_second (ports.faults l0.port) (ports.faults l1.port) (ports.faults l3.port) b.resized.moved.faults.no_fall
           (rises_first (ports.faults l1.port) (ports.faults l2.port) (ports.faults l3.port) rises o.resized.moved.faults.no_fall))
+
+  -- what was taken of Signaling, and then heard, and answered or left
+  pub heard_is : (old l1 l2 l3 : ControlLane P C G R) (asked : Option (Result Command Cause)) (order : Option Order) → TookSignaling ports clocks greatest config old l1 →
+      l1.control ≡ old.control → Hears ports settings l1.control l2.control asked → l2 ≡ record l1 { control = l2.control } →
+      Leaves ports asked l2.done l2.class l2.in_force l2.control l3.control order → l3 ≡ record l2 { control = l3.control } →
+      HasHeard ports clocks greatest settings config old l3 order
+  heard_is old l1 l2 l3 asked order t control (spoken, asks, heard) second (reply, left, now, answered) third = record {
+    took = subst (TookSignaling ports clocks greatest config old) (sym all) (record {
+      exchanges = t.exchanges;
+      few = t.few;
+      answered = t.answered;
+      missed = t.missed;
+      once = t.once;
+      moved = t.moved;
+      front = t.front;
+      most = t.most;
+      beside = record { at = t.beside.at; stopped = t.beside.stopped };
+    });
+    spoken = spoken;
+    reply = reply;
+    spoke = subst (λ c. SpokenTo ports (listed spoken) (reply_sent reply) c l3.control) control
+        (spoken_as ports (listed spoken ++ []) (listed spoken) ([] ++ reply_sent reply) (reply_sent reply) l1.control l3.control (append-nil (listed spoken)) refl
+        (spoken-append ports (listed spoken) [] [] (reply_sent reply) l1.control l2.control l3.control heard answered));
+    left = left ∙ ap left_of asks;
+    now = subst (λ a. AnswersNow (old.done + 1) old.class old.in_force a order reply) asks
+        (subst (λ (a : LaneAt). AnswersNow (a.before + 1) a.class a.in_force asked order reply) (ap lane_at second ∙ t.beside.at) now);
+  }
+    where
+      all : l3 ≡ record l1 { control = l3.control }
+      all = third ∙ ap (λ (l : ControlLane P C G R). record l { control = l3.control }) second

@@ -14,7 +14,7 @@ use Rattle.ptu_outside.specs.Rounds.{most}
 use Rattle.ptu_lanes.specs.Answers.{asks_among, grants_among}
 use Rattle.ptu_lanes.specs.Rounds.{Exchange, Exchanged, IsAnswered, IsRound, answers_of, asks_in, datagrams, items_of, replies, reply_in}
 use Rattle.ptu_lanes.specs.{Sending.{GoesOn, WasSent}, Waiting.{GaveFirst, MissedFew, Took}}
-use Rattle.ptu_lanes.specs.Stretches.{AreRounds, CountsFailures, TookDelayReqs, TookSignaling}
+use Rattle.ptu_lanes.specs.Stretches.{CountsFailures, TookDelayReqs}
 use Rattle.ptu_lanes.proofs.Exchanges.{exchanged-append, exchanged_none}
 use Rattle.ptu_lanes.proofs.Taking.{none_taken, took-append, took_up_to}
 
@@ -112,3 +112,9 @@ module _ {P C : Type 0} (ports : Ports P) (clocks : Clocks C) where
       missed-append : (n m : ℕ) (p0 p1 p2 : P) → MissedFew ports n p0 p1 → MissedFew ports m p1 p2 → MissedFew ports (n + m) p0 p2
       missed-append n m p0 p1 p2 (a, few, f) (b, few', g) =
           (a + b, omega (arith, few, few'), failed-append ports.counts_once a b (ports.faults p0) (ports.faults p1) (ports.faults p2) f g)
+
+-- a round took the first that waited
+pub front_given : {P : Type 0} (ports : Ports P) (greatest : ℕ) (config : GmConfig) (port port' : P) (granted now asks sent : ℕ) →
+    IfSome (ports.waiting port') (λ left. IsRound ports greatest config port port' left granted now asks sent) → GaveFirst most (ports.waiting port) (ports.waiting port')
+front_given ports greatest config port port' granted now asks sent r =
+    some_more (ports.waiting port') _ _ (λ left is. (is.waited, is.all, is.rest)) r

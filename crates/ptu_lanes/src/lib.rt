@@ -18,7 +18,7 @@ mod signaling;
 mod turns;
 
 pub use delays::{Delays, delay_round};
-pub use laws::sample_changes;
+pub use laws::{sample_changes, sample_orders};
 pub use orders::{answer, next_order};
 pub use service::{Base, Service};
 pub use serving::{Ended, Totals, serve_lanes, serve_lanes_within};

@@ -1,6 +1,6 @@
 //! The rounds of the lane that takes Signaling, with the orders that come in them.
 
-ghost use Rattle.std.specs.Prelude.{◌≡◌, ◌≤◌, ◌<◌, ◌+◌, ◌^◌, ◌∷◌, [], true, is_some, IfOk, IfSome, OnOk, Some};
+ghost use Rattle.std.specs.Prelude.{◌≡◌, ◌≤◌, ◌<◌, ◌+◌, ◌^◌, ◌∷◌, [], true, false, is_some, IfOk, IfSome, Ok, OnOk, Some};
 ghost use Rattle.ptu_units.specs.Limits.{greatest_capacity};
 ghost use Rattle.ptu_config.specs.{Limits.{IsGmInRange}, Rounds.{all_rounds}};
 ghost use Rattle.ptu_shared.specs.Seats.{no_verdicts};
@@ -137,9 +137,33 @@ impl<P: Port + Send, L: Rates, G: Ledger, R: Ledger, W: Wait> Service<'_, P, L, 
         status_of(&standing, lane, rounds.missed())
     }
 
-    // What changes nothing is answered. An order that changes something is left, to be obeyed behind
-    // the meeting.
+    // A command that changes nothing is answered. One that changes something is left, to be obeyed
+    // behind the meeting.
     fn answer_or_leave<C: Clock>(
+        &self,
+        rounds: &Rounds,
+        lane: &mut ControlLane<P, C, G, R>,
+        command: Command,
+    ) -> Result<Option<Order>, OutOfMemory>
+        requires { lane.old.done + 1 < 2 ^ 64 }
+        ensures left { IfOk result (Leaves P.Port (Some (Ok command)) lane.old.done lane.old.class
+            lane.old.in_force lane.old.control lane.new.control) }
+        ensures rest { lane.new ≡ record lane.old { control = lane.new.control } }
+    {
+        match command {
+            Command::Status => {
+                let status = self.status(rounds, lane);
+                self.reply(lane, &Reply::Stands(status))?;
+                Ok(None)
+            }
+            Command::Class(class) => Ok(Some(Order::Class(class))),
+            Command::Capacity(capacity) => Ok(Some(Order::Capacity(capacity))),
+            Command::Stop { cancels } => Ok(Some(Order::Stop { cancels })),
+        }
+    }
+
+    // The same of what was asked for. What is no command is answered, too.
+    fn answer_any<C: Clock>(
         &self,
         rounds: &Rounds,
         lane: &mut ControlLane<P, C, G, R>,
@@ -156,14 +180,7 @@ impl<P: Port + Send, L: Rates, G: Ledger, R: Ledger, W: Wait> Service<'_, P, L, 
                 self.reply(lane, &Reply::Bad(cause))?;
                 Ok(None)
             }
-            Some(Ok(Command::Status)) => {
-                let status = self.status(rounds, lane);
-                self.reply(lane, &Reply::Stands(status))?;
-                Ok(None)
-            }
-            Some(Ok(Command::Class(class))) => Ok(Some(Order::Class(class))),
-            Some(Ok(Command::Capacity(capacity))) => Ok(Some(Order::Capacity(capacity))),
-            Some(Ok(Command::Stop { cancels })) => Ok(Some(Order::Stop { cancels })),
+            Some(Ok(command)) => self.answer_or_leave(rounds, lane, command),
         }
     }
 
@@ -183,7 +200,7 @@ impl<P: Port + Send, L: Rates, G: Ledger, R: Ledger, W: Wait> Service<'_, P, L, 
     {
         let mut lane = self.take_signaling(lane)?;
         let asked = self.hear(settings, &mut lane);
-        let order = self.answer_or_leave(rounds, &mut lane, asked)?;
+        let order = self.answer_any(rounds, &mut lane, asked)?;
         if let Some(order) = &order {
             rounds.meeting.say(self.base.rt, order.ahead());
         }
@@ -192,7 +209,8 @@ impl<P: Port + Send, L: Rates, G: Ledger, R: Ledger, W: Wait> Service<'_, P, L, 
 
     // The Announces have this class from a new moment on.
     fn execute_class<C: Clock>(&self, class: u8, lane: &mut ControlLane<P, C, G, R>) -> Reply
-        requires { L.told ≡ true }
+        requires told { L.told ≡ true }
+        requires sequence { lane.old.sequence < 65536 }
         ensures { HasExecuted P.Port C.Clock self.now.base.now.config.now (Order.Class class)
             lane.old lane.new result }
     {
@@ -217,21 +235,28 @@ impl<P: Port + Send, L: Rates, G: Ledger, R: Ledger, W: Wait> Service<'_, P, L, 
         Ok(Reply::Shed(shed.into()))
     }
 
-    // The round was the last one. Each live grant is ended at a new moment, where it is to be.
-    fn execute_stop<C: Clock>(
+    // The round was the last one, and each live grant is ended at a new moment.
+    fn execute_cancel<C: Clock>(
         &self,
-        cancels: bool,
         lane: &mut ControlLane<P, C, G, R>,
     ) -> Result<Reply, OutOfMemory>
         requires ledger { L.parts ≡ 4 }
         ensures { IfOk result (HasExecuted P.Port C.Clock self.now.base.now.config.now
-            (Order.Stop cancels) lane.old lane.new) }
+            (Order.Stop true) lane.old lane.new) }
     {
-        if cancels {
-            change_capacity(self, InForce::NONE, lane)?;
-        }
+        change_capacity(self, InForce::NONE, lane)?;
         lane.stopped = true;
         Ok(Reply::Done)
+    }
+
+    // The round was the last one, and all grants stay.
+    fn execute_stop<C: Clock>(&self, lane: &mut ControlLane<P, C, G, R>) -> Reply
+        requires { lane.old.sequence < 65536 }
+        ensures { HasExecuted P.Port C.Clock self.now.base.now.config.now (Order.Stop false)
+            lane.old lane.new result }
+    {
+        lane.stopped = true;
+        Reply::Done
     }
 
     // Does what is ordered, and gives the answer.
@@ -243,13 +268,15 @@ impl<P: Port + Send, L: Rates, G: Ledger, R: Ledger, W: Wait> Service<'_, P, L, 
         requires ledger { L.parts ≡ 4 }
         requires most { greatest_capacity ≤ L.most }
         requires told { L.told ≡ true }
+        requires sequence { lane.old.sequence < 65536 }
         ensures { IfOk result (HasExecuted P.Port C.Clock self.now.base.now.config.now order
             lane.old lane.new) }
     {
         match order {
             Order::Class(class) => Ok(self.execute_class(class, lane)),
             Order::Capacity(capacity) => self.execute_capacity(capacity, lane),
-            Order::Stop { cancels } => self.execute_stop(cancels, lane),
+            Order::Stop { cancels: true } => self.execute_cancel(lane),
+            Order::Stop { cancels: false } => Ok(self.execute_stop(lane)),
         }
     }
 

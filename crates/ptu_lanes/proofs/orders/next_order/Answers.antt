@@ -6,7 +6,7 @@ pub returns-in-Ok-Some : goal.returns-in-Ok-Some
 returns-in-Ok-Some g c =
     let received = c.in-Ok-Some.ensures in
     record {
-      spoken = Some (record { ip = c.in-Ok-Some.from; bytes = take c.in-Ok-Some.size c.receive.new.buffer });
+      spoken = Some (record { ip = c.in-Ok-Some.from; bytes = take c.in-Ok-Some.size c.receive.new.buf });
       took = took_one g.P.Port _ _ _ (rw c.in-Ok-Some.field-0-is at received.first) (rw c.in-Ok-Some.field-0-is at received.rest) received.sent received.quiet;
       is = c.read_command.ensures;
     }
