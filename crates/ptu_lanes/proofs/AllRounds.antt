@@ -3,7 +3,7 @@ use Rattle.std.proofs.Common.{◌≡◌, ◌∙◌, ℕ, zero, suc, ◌+◌, ◌
 use Rattle.std.specs.{Prelude.{IfSome, is_some}, List.{AllByRecursion}}
 use Rattle.std.proofs.lemmas.List.{append_cancel_right, take-append-drop}
 use Rattle.ptu_outside.specs.declared.{arrival.Arrival.{Arrival}, clock.Clock.{Ghosts as Clocks}, port.Port.{Ghosts as Ports}}
-use Rattle.ptu_outside.specs.Faults.{HasRisen}
+use Rattle.ptu_outside.specs.{Departure.{Departure}, Faults.{HasRisen}}
 use Rattle.ptu_outside.specs.Rounds.{most}
 use Rattle.ptu_outside.proofs.HandsOver.{rises_first, rises_second}
 use Rattle.ptu_profile.specs.declared.grandmaster.GmConfig.{GmConfig}
@@ -25,6 +25,13 @@ use Rattle.ptu_lanes.proofs.Stretching.{gave-append, gave_none, some_more}
 front_of : (xs later waited : List Arrival) (n : ℕ) → waited ≡ xs ++ later → later ≡ drop n waited → xs ≡ take n waited
 front_of xs later waited n all rest =
     append_cancel_right xs (take n waited) later (sym all ∙ sym (take-append-drop n waited) ∙ ap (λ l. take n waited ++ l) (sym rest))
+
+-- a control port stays, and where there is none, none comes
+pub still_spoken : {P : Type 0} (ports : Ports P) (spoken : List Arrival) (answers : List Departure) (a b : Option P) → SpokenTo ports spoken answers a b → is_some b ≡ is_some a
+still_spoken ports spoken answers None None h = refl
+still_spoken ports spoken answers (Some a) (Some b) h = refl
+still_spoken ports spoken answers None (Some b) h = absurd h
+still_spoken ports spoken answers (Some a) None h = absurd h
 
 module _ {P C G R : Type 0} (ports : Ports P) (clocks : Clocks C) (greatest : ℕ) (settings : GmSettings) (config : GmConfig) where
   -- so many rounds were done since the lane was opened
@@ -103,6 +110,10 @@ module _ {P C G R : Type 0} (ports : Ports P) (clocks : Clocks C) (greatest : �
     pub none : NoneEnds (ends_with settings) so_far.rounds
     pub going : now.stopped ≡ false
 
+  pub goes_on_none : (old : ControlLane P C G R) → IsFresh settings old → GoesOnSoFar 0 old old
+  unfolding so_far_none
+  goes_on_none old fresh = record { so_far = so_far_none old fresh; none = tt; going = fresh.stopped }
+
   pub goes_on_more : (count : ℕ) (old now new : ControlLane P C G R) → GoesOnSoFar count old now → DidLaneRound ports clocks greatest settings config now new →
       new.stopped ≡ false → GoesOnSoFar (count + 1) old new
   goes_on_more count old now new s d going =
@@ -113,6 +124,12 @@ module _ {P C G R : Type 0} (ports : Ports P) (clocks : Clocks C) (greatest : �
             (none_ends-push (ends_with settings) s.so_far.rounds d.round s.none (sym (d.stopped s.going) ∙ going));
         going = going;
       }
+
+  -- how many rounds the lane did so far
+  pub rounds_before : (count : ℕ) (old now : ControlLane P C G R) → SoFar count old now → now.done ≡ count
+  rounds_before count old now s =
+      let n = before_after settings (opened_at settings) s.rounds in let many = s.many in
+      omega (arith, ap (λ (a : LaneAt). a.before) s.at, n, many)
 
   -- where its count did not rise, and it tells what waits, just these rounds were done at the port
   controlled : (count : ℕ) (old new : ControlLane P C G R) (s : SoFar count old new) → ¬ HasRisen (ports.faults old.port) (ports.faults new.port) →
@@ -155,7 +172,7 @@ module _ {P C G R : Type 0} (ports : Ports P) (clocks : Clocks C) (greatest : �
       each = s.moved.each;
       failures = s.moved.faults;
     };
-    all_done = ap (λ (a : LaneAt). a.before) s.at ∙ before_after settings (opened_at settings) s.rounds;
+    all_done = let n = before_after settings (opened_at settings) s.rounds in omega (arith, ap (λ (a : LaneAt). a.before) s.at, n);
     control = controlled count old new s;
     spoken = s.spoke;
     in_force_is = ap (λ (a : LaneAt). a.in_force) s.at;
@@ -185,16 +202,17 @@ module _ {P C G R : Type 0} (ports : Ports P) (clocks : Clocks C) (greatest : �
 pub unspoken_each : (greatest : ℕ) (settings : GmSettings) (config : GmConfig) (at : LaneAt) (rs : List LaneRound) → AreEach settings (IsLaneRound greatest settings config) at rs →
     spoken_in rs ≡ [] → AllByRecursion IsUnspoken rs × NoneEnds (ends_with settings) rs
 unspoken_each greatest settings config at [] are none = (tt, tt)
-unspoken_each greatest settings config at (r ∷ rs) (is, are) none = of r.spoken refl
+unspoken_each greatest settings config at (r ∷ rs) (is, are) none =
+    of r.spoken refl (λ rest. unspoken_each greatest settings config (at_next settings at r) rs are rest)
   where
-    of : (spoken : Option Arrival) → r.spoken ≡ spoken → AllByRecursion IsUnspoken (r ∷ rs) × NoneEnds (ends_with settings) (r ∷ rs)
-    of (Some arrival) said =
+    of : (spoken : Option Arrival) → r.spoken ≡ spoken → (spoken_in rs ≡ [] → AllByRecursion IsUnspoken rs × NoneEnds (ends_with settings) rs) →
+        AllByRecursion IsUnspoken (r ∷ rs) × NoneEnds (ends_with settings) (r ∷ rs)
+    of (Some arrival) said later =
         let some : arrival ∷ spoken_in rs ≡ [] = sym (ap (λ s. listed s ++ spoken_in rs) said) ∙ none in
         absurd (cc some)
-    of None said =
+    of None said later =
         let rest : spoken_in rs ≡ [] = sym (ap (λ s. listed s ++ spoken_in rs) said) ∙ none in
-        let later = unspoken_each greatest settings config (at_next settings at r) rs are rest in
         let no_order : left_of (order_in settings r.spoken) ≡ None = ap (λ s. left_of (order_in settings s)) said in (
-          (record { nothing = said; none_shed = is.kept (ap capacity_by no_order) }, later.0),
-          (ap stops_by no_order, later.1),
+          (record { nothing = said; none_shed = is.kept (ap capacity_by no_order) }, (later rest).0),
+          (ap stops_by no_order, (later rest).1),
         )

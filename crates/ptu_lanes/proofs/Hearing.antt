@@ -8,11 +8,12 @@ use Rattle.ptu_outside.specs.Telling.{IfTold, IsEmptyTold, IsFirstTold, TellsOn,
 use Rattle.ptu_outside.proofs.HandsOver.{just_once, not_fallen_both, not_fallen_none, sent_none, told_none}
 use Rattle.ptu_shared.specs.Opening.{HaveFailed}
 use Rattle.ptu_shared.proofs.Failing.{failed_none}
-use Rattle.ptu_config.specs.declared.{settings.GmSettings.{GmSettings}, answer.Reply.{Reply}, command.Cause.{Cause}, command.Command.{Command}}
+use Rattle.ptu_config.specs.declared.{settings.GmSettings.{GmSettings}, answer.Reply.{Reply}, answer.Status.{Status}, command.Cause.{Cause}, command.Command.{Command}}
+use Rattle.ptu_config.specs.declared.answer.Reply.TheVariants.{Bad, Stands}
 use Rattle.ptu_config.specs.declared.command.Command.TheVariants as commands
 use Rattle.ptu_lanes.specs.declared.orders.Order.{Order}
 use Rattle.ptu_lanes.specs.declared.orders.Order.TheVariants as orders
-use Rattle.ptu_lanes.specs.Heard.{AnswersNow, Hears, IsReply, Spoke, SpokenTo, TookSpoken, WasAnswered, answer_sent, reply_to}
+use Rattle.ptu_lanes.specs.Heard.{AnswersNow, Hears, IsReply, Leaves, MayStand, Spoke, SpokenTo, TookSpoken, WasAnswered, answer_sent, reply_to}
 use Rattle.ptu_lanes.specs.Orders.{left_of, listed, order_in}
 use Rattle.ptu_lanes.proofs.{Handing.{handed-append, handed_none, handed_of}, Taking.{first_given, given_more, kept_is}}
 
@@ -140,3 +141,15 @@ module _ {P : Type 0} (ports : Ports P) where
     failed = 1;
     failures = record { risen = risen; just = λ is. just_once (ports.faults old) (ports.faults new) (once is); quiet = λ none. absurd (omega (arith, none)); no_fall = no_fall };
   }
+
+  -- ---- what is answered at once
+
+  pub leaves_status : (command : Command) (done class in_force : ℕ) (status : Status) (a b : Option P) → command ≡ commands.Status → MayStand (done + 1) class in_force status →
+      SpokenTo ports [] (answer_sent (Stands status) ∷ []) a b → Leaves ports (Some (Ok command)) done class in_force a b None
+  leaves_status command done class in_force status a b is stands spoke =
+      subst (λ k. Leaves ports (Some (Ok k)) done class in_force a b None) (sym is) (Some (Stands status), refl, (status, refl, stands), spoke)
+
+  pub leaves_cause : (asked : Option (Result Command Cause)) (cause : Cause) (done class in_force : ℕ) (a b : Option P) → asked ≡ Some (Err cause) →
+      SpokenTo ports [] (answer_sent (Bad cause) ∷ []) a b → Leaves ports asked done class in_force a b None
+  leaves_cause asked cause done class in_force a b is spoke =
+      subst (λ k. Leaves ports k done class in_force a b None) (sym is) (Some (Bad cause), refl, refl, spoke)

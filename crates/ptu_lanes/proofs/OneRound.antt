@@ -1,11 +1,12 @@
 -- A round of the lane that takes Signaling, from its parts.
-use Rattle.std.proofs.Common.{◌≡◌, ◌∙◌, ℕ, ◌+◌, ◌*◌, ◌≤◌, ◌%◌, Bool, false, List, [], ◌∷◌, ◌++◌, length, drop, refl, sym, ap, subst, arith, Option, Some, None, Result}
-use Rattle.std.specs.Prelude.{IfSome}
+use Rattle.std.proofs.Common.{◌≡◌, ◌∙◌, ℕ, ◌+◌, ◌*◌, ◌≤◌, ◌%◌, Bool, true, false, List, [], ◌∷◌, ◌++◌, length, drop, refl, sym, ap, subst, arith, Option, Some, None, Result}
+use Rattle.std.specs.Prelude.{IfSome, is_some}
 use Rattle.std.proofs.lemmas.List.{append-nil}
 use Rattle.ptu_units.specs.declared.{client.Client.{Client}, kind.Kind.{Kind}}
 use Rattle.ptu_outside.specs.declared.{arrival.Arrival.{Arrival}, clock.Clock.{Ghosts as Clocks}, port.Port.{Ghosts as Ports}}
 use Rattle.ptu_outside.specs.Faults.{HasNotFallen, HasRisen}
-use Rattle.ptu_outside.specs.Rounds.{most}
+use Rattle.ptu_units.specs.Limits.{greatest_capacity}
+use Rattle.ptu_outside.specs.{Departure.{Departure}, Rounds.{most}}
 use Rattle.ptu_outside.proofs.HandsOver.{not_fallen_both, rises_first, rises_second}
 use Rattle.ptu_profile.specs.declared.grandmaster.GmConfig.{GmConfig}
 use Rattle.ptu_shared.specs.Seats.{SeatCounts}
@@ -14,11 +15,11 @@ use Rattle.ptu_config.specs.declared.{settings.GmSettings.{GmSettings}, answer.R
 use Rattle.ptu_lanes.specs.declared.{lanes.ControlLane.{ControlLane}, orders.Order.{Order}}
 use Rattle.ptu_lanes.specs.Changing.{begins_changed, later_of, new_with}
 use Rattle.ptu_lanes.specs.Heard.{AnswersNow, Hears, IsLaneRound, IsReply, Leaves, SpokenTo, reply_sent}
-use Rattle.ptu_lanes.specs.Orders.{LaneAt, LaneRound, at_next, capacity_by, class_by, left_of, listed, moments_by, moments_if, order_in, round_moments, round_sends, sequence_on, stops_by}
+use Rattle.ptu_lanes.specs.Orders.{LaneAt, LaneRound, at_next, capacity_by, class_by, left_of, listed, moments_by, moments_if, order_in, peak_ordered, round_moments, round_sends, sequence_on, stops_by}
 use Rattle.ptu_lanes.specs.Rounds.{Exchange, datagrams, replies}
 use Rattle.ptu_lanes.specs.Stretches.{DidLaneRound, HasBegun, HasHeard, HasMoved, HasObeyed, RepliesTo, TookSignaling, lane_at, taking_of}
 use Rattle.ptu_lanes.specs.Waiting.{GaveFirst}
-use Rattle.ptu_lanes.proofs.{Hearing.{replied_by, spoken-append, spoken_as}, Moving.{moved-append, moved_as}}
+use Rattle.ptu_lanes.proofs.{Hearing.{ordered_told, replied_by, spoken-append, spoken_as}, Moving.{moved-append, moved_as}}
 
 -- what was answered: at once, or behind the meeting
 abbrev pub reply_of : Option Order → Option Reply → Option Reply → Option Reply
@@ -167,3 +168,14 @@ module _ {P C G R : Type 0} (ports : Ports P) (clocks : Clocks C) (greatest : �
     where
       all : l3 ≡ record l1 { control = l3.control }
       all = third ∙ ap (λ (l : ControlLane P C G R). record l { control = l3.control }) second
+
+module _ {P : Type 0} (ports : Ports P) (settings : GmSettings) where
+  -- an order comes only where orders may come, and puts no greater capacity in force than may be
+  pub order_may : (told : Bool) (highest : ℕ) (spoken : Option Arrival) (answers : List Departure) (a b : Option P) (order : Option Order) → order ≡ left_of (order_in settings spoken) →
+      SpokenTo ports (listed spoken) answers a b → told ≡ is_some a → highest ≡ peak_ordered told settings →
+      IfSome order (λ o. (told ≡ true) × (greatest_capacity ≤ highest))
+  order_may told highest spoken answers a b None left spoke is peak = tt
+  order_may told highest spoken answers a b (Some order) left spoke is peak =
+      let may : told ≡ true = is ∙ ordered_told ports settings spoken order answers a b left spoke in
+      let highest_is : highest ≡ greatest_capacity = peak ∙ ap (λ t. peak_ordered t settings) may in
+      (may, omega (arith, highest_is))

@@ -334,7 +334,7 @@ impl<P: Port + Send, L: Rates, G: Ledger, R: Ledger, W: Wait> Service<'_, P, L, 
         requires range { IsGmInRange settings.now }
         requires most { L.most ≡ peak_ordered L.told settings.now }
         requires told { L.told ≡ is_some lane.control }
-        requires left { lane.done < all_rounds settings.now }
+        requires left { (lane.done < all_rounds settings.now) × (lane.done < 2 ^ 42) }
         requires counts { (lane.seat.granted ≤ 2 ^ 55) × (lane.seat.refused ≤ 2 ^ 55) }
         ensures { IfOk result (DidLaneRound P.Port C.Clock L.most settings.now
             self.now.base.now.config.now lane) }
