@@ -218,3 +218,12 @@ new_within settings before capacity some few = of (settings.change_round == befo
 pub ordered_within : (told : Bool) (settings : GmSettings) (capacity : ℕ) → capacity ≤ peak_capacity settings → capacity ≤ greatest_capacity → capacity ≤ peak_ordered told settings
 ordered_within true settings capacity few all = all
 ordered_within false settings capacity few all = few
+
+-- nor does the opening have a greater one
+pub opened_within : (told : Bool) (settings : GmSettings) → settings.capacity ≤ greatest_capacity → settings.capacity ≤ peak_ordered told settings
+opened_within true settings few = few
+opened_within false settings few = of (change_of settings)
+  where
+    of : (change : Option ℕ) → settings.capacity ≤ greater_of settings.capacity change
+    of None = omega arith
+    of (Some later) = omega arith

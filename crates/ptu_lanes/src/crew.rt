@@ -61,6 +61,8 @@ fn sending_lanes<C: Clock, L: Rates>(
     ensures turners { (result.first.turner ≡ turners.first)
         × (result.second.turner ≡ turners.second) × (result.third.turner ≡ turners.third)
         × (result.fourth.turner ≡ turners.fourth) }
+    ensures fresh { (result.first.done ≡ 0) × (result.second.done ≡ 0)
+        × (result.third.done ≡ 0) × (result.fourth.done ≡ 0) }
 {
     let Turners {
         first,
@@ -341,6 +343,7 @@ where
         requires rates { IsBlankOf L.name L.parts 4 ledgers.rates }
         requires granted { IsBlankOf G.name G.parts L.seats ledgers.granted }
         requires refused { IsBlankOf R.name R.parts L.seats ledgers.refused }
+        requires range { IsGmInRange settings.now }
         requires opening { L.opening ≡ settings.now.capacity }
         requires most { L.most ≡ peak_ordered L.told settings.now }
         requires seats { L.seats ≡ 1 }

@@ -6,8 +6,10 @@ use Rattle.ptu_lanes.proofs.serving.serve_under.Goals as goal
 pub returns : goal.returns
 returns g c =
     let lanes = c.in-Served.lanes in
-    let done : LanesServed g.P.Port g.C.Clock c.args.settings.now c.args.base.now.config.now c.args.opened lanes × (c.in-Served.seats.items ≡ []) = rw c.in-Served.is at c.in_ok-done.ensures in
+    let done : LanesServed g.P.Port g.C.Clock c.args.settings.now c.args.base.now.config.now c.args.opened c.args.control lanes × (c.in-Served.seats.items ≡ []) =
+    rw c.in-Served.is at c.in_ok-done.ensures in
     let closing = c.in_ok-back.ensures in
-    serves_by_lanes g.P.Port g.C.Clock c.args.settings.now c.args.base.now.config.now c.args.opened c.in_ok-back.back c.in_ok-back.totals lanes c.capacity_at_end.result g.L.Rates.opened c.capacity_at_end.ensures
-    c.requires.ports done.0 closing.ports closing.clocks closing.tables closing.totals closing.held
-    (subst (λ config. TablesSent g.P.Port config g.L.Rates.opened c.in_ok-back.back lanes.control.tally.sent c.in_ok-back.totals.sent (turns_by lanes.sending)) (sym c.requires.config) closing.sent)
+    serves_by_lanes g.P.Port g.C.Clock c.args.settings.now c.args.base.now.config.now c.args.opened c.in_ok-back.back c.args.control c.in_ok-back.control c.in_ok-back.totals lanes
+    g.L.Rates.opened c.requires.ports done.0 closing.ports closing.clocks closing.tables closing.totals closing.held closing.together
+    (subst (λ told. TablesSent g.P.Port told c.args.base.now.config.now g.L.Rates.opened c.in_ok-back.back lanes.control.tally.sent c.in_ok-back.totals.sent (turns_by lanes.sending)) c.requires.told
+    (subst (λ config. TablesSent g.P.Port g.L.Rates.told config g.L.Rates.opened c.in_ok-back.back lanes.control.tally.sent c.in_ok-back.totals.sent (turns_by lanes.sending)) (sym c.requires.config) closing.sent))

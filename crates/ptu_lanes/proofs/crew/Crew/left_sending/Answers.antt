@@ -1,16 +1,17 @@
 use Rattle.std.proofs.Common.{refl}
+use Rattle.ptu_lanes.specs.declared.lanes.SendingLane.{SendingLane}
 use Rattle.ptu_lanes.specs.Stretches.{SendingLaneDid}
 use Rattle.ptu_lanes.proofs.Outcomes.{came_left}
 use Rattle.ptu_lanes.proofs.crew.Crew.left_sending.Goals as goal
 
 pub returns : goal.returns
-returns g c rounds old at =
-    let first = came_left (SendingLaneDid g.C.Clock rounds old.first) old.first c.called.result c.in_ok-left.field-0
+returns g c old at =
+    let first = came_left (λ (new : SendingLane _ _). SendingLaneDid g.C.Clock new.done old.first new) old.first c.called.result c.in_ok-left.field-0
     (at.first c.called.result c.called.ensures) c.in_ok-left.ensures in
-    let second = came_left (SendingLaneDid g.C.Clock rounds old.second) old.second c.called-2.result c.in_ok-left-2.field-0
+    let second = came_left (λ (new : SendingLane _ _). SendingLaneDid g.C.Clock new.done old.second new) old.second c.called-2.result c.in_ok-left-2.field-0
     (at.second c.called-2.result c.called-2.ensures) c.in_ok-left-2.ensures in
-    let third = came_left (SendingLaneDid g.C.Clock rounds old.third) old.third c.called-3.result c.in_ok-left-3.field-0
+    let third = came_left (λ (new : SendingLane _ _). SendingLaneDid g.C.Clock new.done old.third new) old.third c.called-3.result c.in_ok-left-3.field-0
     (at.third c.called-3.result c.called-3.ensures) c.in_ok-left-3.ensures in
-    let fourth = came_left (SendingLaneDid g.C.Clock rounds old.fourth) old.fourth c.called-4.result c.in_ok-left-4.field-0
+    let fourth = came_left (λ (new : SendingLane _ _). SendingLaneDid g.C.Clock new.done old.fourth new) old.fourth c.called-4.result c.in_ok-left-4.field-0
     (at.fourth c.called-4.result c.called-4.ensures) c.in_ok-left-4.ensures in
     rw (first, second, third, fourth) refl
