@@ -134,6 +134,11 @@ exchanged_as ports clocks told settings config port now port' clock then clock' 
   failures = subst (λ p. HaveFailed ports.counts_once e.failed (ports.faults port) (ports.faults p)) (sym port_is) e.failures;
 }
 
+-- a lane that is with the one that takes Signaling did as many rounds as are told, or turns nothing
+with_all : {C L : Type 0} (rounds done : ℕ) (lane : SendingLane C L) → rounds ≡ done → IsWith done lane → (lane.turner ≡ no_turns) ⊎ (lane.done ≡ rounds)
+with_all rounds done lane all (inl none) = inl none
+with_all rounds done lane all (inr is) = inr (is ∙ sym all)
+
 -- lanes at their end, whose ports, clocks and counts are those that are given back
 pub serves_by_lanes : {P C L G R : Type 0} (ports : Ports P) (clocks : Clocks C) (settings : GmSettings) (config : GmConfig) (opened closed : Opened P C) (speaking speaking' : Option P)
     (totals : Totals) (lanes : Lanes P C L G R) (seen : ℕ → Seen) →
@@ -220,20 +225,16 @@ serves_by_lanes ports clocks settings config opened closed speaking speaking' to
     many = together.1 ∙ sym together.0.event
 
     first : HasTurned clocks totals.rounds opened.c2 lanes.sending.first.clock (own_turns settings.senders 0 all_turns) lanes.sending.first.turner
-    first = turned_with clocks totals.rounds _ _ _ _ _ did.first (with_all lanes.sending.first together.0.first)
+    first = turned_with clocks totals.rounds _ _ _ _ _ did.first (with_all totals.rounds lanes.control.done lanes.sending.first together.1 together.0.first)
 
     second : HasTurned clocks totals.rounds opened.c3 lanes.sending.second.clock (own_turns settings.senders 1 all_turns) lanes.sending.second.turner
-    second = turned_with clocks totals.rounds _ _ _ _ _ did.second (with_all lanes.sending.second together.0.second)
+    second = turned_with clocks totals.rounds _ _ _ _ _ did.second (with_all totals.rounds lanes.control.done lanes.sending.second together.1 together.0.second)
 
     third : HasTurned clocks totals.rounds opened.c4 lanes.sending.third.clock (own_turns settings.senders 2 all_turns) lanes.sending.third.turner
-    third = turned_with clocks totals.rounds _ _ _ _ _ did.third (with_all lanes.sending.third together.0.third)
+    third = turned_with clocks totals.rounds _ _ _ _ _ did.third (with_all totals.rounds lanes.control.done lanes.sending.third together.1 together.0.third)
 
     fourth : HasTurned clocks totals.rounds opened.c5 lanes.sending.fourth.clock (own_turns settings.senders 3 all_turns) lanes.sending.fourth.turner
-    fourth = turned_with clocks totals.rounds _ _ _ _ _ did.fourth (with_all lanes.sending.fourth together.0.fourth)
-
-    with_all : (lane : SendingLane _ _) → IsWith lanes.control.done lane → (lane.turner ≡ no_turns) ⊎ (lane.done ≡ totals.rounds)
-    with_all lane (inl none) = inl none
-    with_all lane (inr is) = inr (is ∙ sym together.1)
+    fourth = turned_with clocks totals.rounds _ _ _ _ _ did.fourth (with_all totals.rounds lanes.control.done lanes.sending.fourth together.1 together.0.fourth)
 
     turned : turns_by lanes.sending ≡ after_rounds totals.rounds all_turns
     turned = all_rounds_of clocks settings.senders totals.rounds _ _ _ _ _ _ _ _ _ _ _ _ _ _ _ _ did.lanes_are.0 did.lanes_are.1 refl refl refl refl first second third fourth
