@@ -1,5 +1,5 @@
 -- Rounds of the lane that takes Signaling, one after the other, up to all of them.
-use Rattle.std.proofs.Common.{◌≡◌, ◌∙◌, ℕ, zero, suc, ◌+◌, ◌*◌, ◌-◌, ◌^◌, ◌≤◌, min, Bool, true, false, List, [], ◌∷◌, ◌++◌, length, take, drop, refl, sym, ap, subst, arith, Option, Some, None}
+use Rattle.std.proofs.Common.{◌≡◌, ◌∙◌, ℕ, ◌+◌, ◌*◌, ◌≤◌, true, false, List, [], ◌∷◌, ◌++◌, length, take, drop, refl, sym, ap, subst, arith, Option, Some, None}
 use Rattle.std.specs.{Prelude.{IfSome, is_some}, List.{AllByRecursion}}
 use Rattle.std.proofs.lemmas.List.{append_cancel_right, take-append-drop}
 use Rattle.ptu_outside.specs.declared.{arrival.Arrival.{Arrival}, clock.Clock.{Ghosts as Clocks}, port.Port.{Ghosts as Ports}}
@@ -10,16 +10,16 @@ use Rattle.ptu_profile.specs.declared.grandmaster.GmConfig.{GmConfig}
 use Rattle.ptu_shared.specs.Seats.{SeatCounts, no_verdicts}
 use Rattle.ptu_config.specs.{declared.settings.GmSettings.{GmSettings}, Rounds.{all_rounds}}
 use Rattle.ptu_lanes.specs.declared.lanes.ControlLane.{ControlLane}
-use Rattle.ptu_lanes.specs.{Crew.{IsFresh, ServedAs, ServedSignaling}, Served.{ExchangedAll, IsControlled, IsUnspoken}}
+use Rattle.ptu_lanes.specs.{Crew.{IsFresh, ServedAs}, Served.{IsControlled, IsUnspoken}}
 use Rattle.ptu_lanes.specs.Heard.{IsLaneRound, SpokenTo, answers_in, reply_sent}
-use Rattle.ptu_lanes.specs.Orders.{AreAllBy, AreEach, EndsOr, LaneAt, LaneRound, at_after, at_next, capacity_by, ends_with, exchanges_in, lane_moments, lane_sends, left_of, listed, opened_at, order_in, peak_ordered, round_moments, round_sends, spoken_in, stops_by}
-use Rattle.ptu_lanes.specs.Rounds.{Exchange, asks_in, datagrams, grants_in}
+use Rattle.ptu_lanes.specs.Orders.{AreAllBy, AreEach, LaneAt, LaneRound, at_after, at_next, capacity_by, ends_with, exchanges_in, lane_moments, lane_sends, left_of, listed, opened_at, order_in, peak_ordered, round_moments, round_sends, spoken_in, stops_by}
+use Rattle.ptu_lanes.specs.Rounds.{datagrams}
 use Rattle.ptu_lanes.specs.Stretches.{DidLaneRound, HasMoved, lane_at, taking_of}
 use Rattle.ptu_lanes.specs.Waiting.{GaveFirst}
-use Rattle.ptu_lanes.proofs.Hearing.{spoken-append, spoken_as, spoken_none, unheard}
+use Rattle.ptu_lanes.proofs.Hearing.{spoken-append, spoken_as, spoken_none}
 use Rattle.ptu_lanes.proofs.Moving.{failed_from, moved-append, moved_as, moved_none}
 use Rattle.ptu_lanes.proofs.OrderedRounds.{NoneEnds, are_each-push, at_after-push, before_after, flat_push, lane_moments-push, lane_sends-push, last_ends, none_ended, none_ends-push}
-use Rattle.ptu_lanes.proofs.Stretching.{gave-append, gave_none, some_more}
+use Rattle.ptu_lanes.proofs.Stretching.{gave-append, gave_none}
 
 -- the datagrams that were taken are the first that waited
 front_of : (xs later waited : List Arrival) (n : ℕ) → waited ≡ xs ++ later → later ≡ drop n waited → xs ≡ take n waited

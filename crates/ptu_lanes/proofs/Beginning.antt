@@ -1,6 +1,6 @@
 -- The changes of capacity and the orders in a round, as parts of it.
 use Rattle.std.proofs.Common.{◌≡◌, ◌∙◌, ℕ, ◌+◌, ◌-◌, ◌^◌, ◌≤◌, ◌<◌, ◌%◌, min, Bool, true, false, List, [], ◌∷◌, length, refl, sym, ap, ap₂, subst, arith, Option, Some, None, Result, Ok, Err}
-use Rattle.std.specs.Prelude.{OnOk, ◌&&◌, ◌==◌, if◌then◌else◌, is_some, nat_lt, nat_le, max}
+use Rattle.std.specs.Prelude.{OnOk, ◌&&◌, ◌==◌, if◌then◌else◌, is_some}
 use Rattle.std.proofs.{Math.Nat.{mod-eq_of_lt}, lemmas.Bool.{eqb-true, le-leb, lt-ltb}}
 use Rattle.ptu_units.specs.Limits.{greatest_capacity}
 use Rattle.ptu_units.specs.declared.{client.Client.{Client}, kind.Kind.{Kind}}
@@ -14,7 +14,7 @@ use Rattle.ptu_lanes.specs.declared.{lanes.ControlLane.{ControlLane}, orders.Ord
 use Rattle.ptu_lanes.specs.declared.orders.Order.TheVariants as orders
 use Rattle.ptu_lanes.specs.Changing.{begins_changed, change_of, greater_of, later_of, new_with, peak_capacity}
 use Rattle.ptu_lanes.specs.Heard.{SpokenTo, answer_sent, reply_to}
-use Rattle.ptu_lanes.specs.Orders.{capacity_by, class_by, moments_by, moments_if, peak_ordered, sequence_on, stops_by}
+use Rattle.ptu_lanes.specs.Orders.{moments_if, peak_ordered, sequence_on}
 use Rattle.ptu_lanes.specs.Stretches.{HasBegun, HasExecuted, HasObeyed, HasResized, taking_of}
 use Rattle.ptu_lanes.specs.Waiting.{PassedBy}
 use Rattle.ptu_lanes.proofs.{Hearing.{spoken_none}, Moving.{moved_as, moved_hands, moved_none, moved_ticked}}

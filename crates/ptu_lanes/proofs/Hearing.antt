@@ -1,6 +1,6 @@
 -- What was taken of a control port, and answered, one part after the other.
-use Rattle.std.proofs.Common.{◌≡◌, ◌∙◌, ℕ, ◌+◌, List, [], ◌∷◌, ◌++◌, length, take, refl, sym, ap, ap₂, subst, arith, Option, Some, None, Result, Ok, Err}
-use Rattle.std.specs.Prelude.{IfNone, IfSome, is_some, true}
+use Rattle.std.proofs.Common.{◌≡◌, ◌∙◌, ℕ, ◌+◌, List, [], ◌∷◌, ◌++◌, refl, sym, ap, ap₂, subst, arith, Option, Some, None, Result, Ok, Err}
+use Rattle.std.specs.Prelude.{IfSome, is_some, true}
 use Rattle.ptu_units.specs.declared.{client.Client.{Client}, kind.Kind.{Kind}}
 use Rattle.ptu_outside.specs.{declared.arrival.Arrival.{Arrival}, declared.port.Port.{Ghosts as Ports}, Departure.{Departure}}
 use Rattle.ptu_outside.specs.{Faults.{HasNotFallen, HasRisen, one_more}, HandsOver.{SentOf}}
@@ -13,7 +13,7 @@ use Rattle.ptu_config.specs.declared.answer.Reply.TheVariants.{Bad, Stands}
 use Rattle.ptu_config.specs.declared.command.Command.TheVariants as commands
 use Rattle.ptu_lanes.specs.declared.orders.Order.{Order}
 use Rattle.ptu_lanes.specs.declared.orders.Order.TheVariants as orders
-use Rattle.ptu_lanes.specs.Heard.{AnswersNow, Hears, IsReply, Leaves, MayStand, Spoke, SpokenTo, TookSpoken, WasAnswered, answer_sent, reply_to}
+use Rattle.ptu_lanes.specs.Heard.{IsReply, Leaves, MayStand, Spoke, SpokenTo, TookSpoken, WasAnswered, answer_sent, reply_to}
 use Rattle.ptu_lanes.specs.Orders.{left_of, listed, order_in}
 use Rattle.ptu_lanes.proofs.{Handing.{handed-append, handed_none, handed_of}, Taking.{first_given, given_more, kept_is}}
 

@@ -113,8 +113,12 @@ none_behind rounds (Some n) is = absurd (cc is)
 
 no_turns_behind : (rounds : ℕ) (turns : Turns) → after_rounds rounds turns ≡ no_turns → turns ≡ no_turns
 no_turns_behind rounds turns is =
-    rw (none_behind rounds turns.t0 (ap (λ (t : Turns). t.t0) is), none_behind rounds turns.t1 (ap (λ (t : Turns). t.t1) is),
-    none_behind rounds turns.t2 (ap (λ (t : Turns). t.t2) is), none_behind rounds turns.t3 (ap (λ (t : Turns). t.t3) is)) refl
+    rw (
+      none_behind rounds turns.t0 (ap (λ (t : Turns). t.t0) is),
+      none_behind rounds turns.t1 (ap (λ (t : Turns). t.t1) is),
+      none_behind rounds turns.t2 (ap (λ (t : Turns). t.t2) is),
+      none_behind rounds turns.t3 (ap (λ (t : Turns). t.t3) is),
+    ) refl
 
 pub turned_with : {C : Type 0} (clocks : Clocks C) (rounds done : ℕ) (clock clock' : C) (turns turns' : Turns) → HasTurned clocks done clock clock' turns turns' →
     (turns' ≡ no_turns) ⊎ (done ≡ rounds) → HasTurned clocks rounds clock clock' turns turns'

@@ -1,23 +1,23 @@
 -- A round of the lane that takes Signaling, from its parts.
-use Rattle.std.proofs.Common.{◌≡◌, ◌∙◌, ℕ, ◌+◌, ◌*◌, ◌≤◌, ◌%◌, Bool, true, false, List, [], ◌∷◌, ◌++◌, length, drop, refl, sym, ap, subst, arith, Option, Some, None, Result}
+use Rattle.std.proofs.Common.{◌≡◌, ◌∙◌, ℕ, ◌+◌, ◌≤◌, Bool, true, List, [], ◌++◌, length, refl, sym, ap, subst, arith, Option, Some, None, Result}
 use Rattle.std.specs.Prelude.{IfSome, is_some}
 use Rattle.std.proofs.lemmas.List.{append-nil}
 use Rattle.ptu_units.specs.declared.{client.Client.{Client}, kind.Kind.{Kind}}
 use Rattle.ptu_outside.specs.declared.{arrival.Arrival.{Arrival}, clock.Clock.{Ghosts as Clocks}, port.Port.{Ghosts as Ports}}
-use Rattle.ptu_outside.specs.Faults.{HasNotFallen, HasRisen}
+use Rattle.ptu_outside.specs.Faults.{HasRisen}
 use Rattle.ptu_units.specs.Limits.{greatest_capacity}
 use Rattle.ptu_outside.specs.{Departure.{Departure}, Rounds.{most}}
-use Rattle.ptu_outside.proofs.HandsOver.{not_fallen_both, rises_first, rises_second}
+use Rattle.ptu_outside.proofs.HandsOver.{rises_first, rises_second}
 use Rattle.ptu_profile.specs.declared.grandmaster.GmConfig.{GmConfig}
 use Rattle.ptu_shared.specs.Seats.{SeatCounts}
 use Rattle.ptu_gm_messages.specs.Replies.{cancels_to}
 use Rattle.ptu_config.specs.declared.{settings.GmSettings.{GmSettings}, answer.Reply.{Reply}, command.Cause.{Cause}, command.Command.{Command}}
 use Rattle.ptu_lanes.specs.declared.{lanes.ControlLane.{ControlLane}, orders.Order.{Order}}
 use Rattle.ptu_lanes.specs.Changing.{begins_changed, later_of, new_with}
-use Rattle.ptu_lanes.specs.Heard.{AnswersNow, Hears, IsLaneRound, IsReply, Leaves, SpokenTo, reply_sent}
-use Rattle.ptu_lanes.specs.Orders.{LaneAt, LaneRound, at_next, capacity_by, class_by, left_of, listed, moments_by, moments_if, order_in, peak_ordered, round_moments, round_sends, sequence_on, stops_by}
+use Rattle.ptu_lanes.specs.Heard.{AnswersNow, Hears, IsReply, Leaves, SpokenTo, reply_sent}
+use Rattle.ptu_lanes.specs.Orders.{LaneAt, LaneRound, capacity_by, class_by, left_of, listed, moments_by, moments_if, order_in, peak_ordered, sequence_on, stops_by}
 use Rattle.ptu_lanes.specs.Rounds.{Exchange, datagrams, replies}
-use Rattle.ptu_lanes.specs.Stretches.{DidLaneRound, HasBegun, HasHeard, HasMoved, HasObeyed, RepliesTo, TookSignaling, lane_at, taking_of}
+use Rattle.ptu_lanes.specs.Stretches.{DidLaneRound, HasBegun, HasHeard, HasObeyed, RepliesTo, TookSignaling, lane_at, taking_of}
 use Rattle.ptu_lanes.specs.Waiting.{GaveFirst}
 use Rattle.ptu_lanes.proofs.{Hearing.{ordered_told, replied_by, spoken-append, spoken_as}, Moving.{moved-append, moved_as}}
 

@@ -1,21 +1,17 @@
 -- Rounds of lanes, one after the other.
-use Rattle.std.proofs.Common.{◌≡◌, ◌∙◌, ℕ, ◌+◌, ◌-◌, ◌*◌, ◌^◌, ◌≤◌, min, Bool, ◌++◌, List, [], take, drop, refl, sym, ap, subst, arith, Option, Some, None}
+use Rattle.std.proofs.Common.{◌≡◌, ◌∙◌, ℕ, ◌+◌, ◌-◌, ◌*◌, ◌^◌, ◌≤◌, min, Bool, ◌++◌, List, drop, refl, sym, ap, subst, arith, Option, Some, None}
 use Rattle.std.specs.Prelude.{IfSome}
-use Rattle.std.proofs.lemmas.{List.{drop-drop, map-append}, List.Elements.{All-append, All-nil}}
-use Rattle.std.proofs.lemmas.{List.Sums.{sum_by-append}, Grind.{flat_map-append}}
-use Rattle.std.proofs.Math.Seq.{take-add}
+use Rattle.std.proofs.lemmas.{List.{drop-drop}}
 use Rattle.ptu_outside.specs.declared.{arrival.Arrival.{Arrival}, clock.Clock.{Ghosts as Clocks}}
 use Rattle.ptu_outside.specs.{declared.port.Port.{Ghosts as Ports}, Faults.{HasNotFallen, HasRisen}}
-use Rattle.ptu_outside.proofs.HandsOver.{goes_on_both, not_fallen_both, not_fallen_none, rises_first, rises_second, told_both, told_none}
+use Rattle.ptu_outside.proofs.HandsOver.{not_fallen_both, not_fallen_none, rises_first, rises_second}
 use Rattle.ptu_profile.specs.declared.grandmaster.GmConfig.{GmConfig}
-use Rattle.ptu_shared.specs.{Opening.{HaveFailed}, Seats.{SeatCounts}}
+use Rattle.ptu_shared.specs.{Opening.{HaveFailed}}
 use Rattle.ptu_shared.proofs.Failing.{failed-append, failed_bounded, failed_none}
 use Rattle.ptu_outside.specs.Rounds.{most}
-use Rattle.ptu_lanes.specs.Answers.{asks_among, grants_among}
-use Rattle.ptu_lanes.specs.Rounds.{Exchange, Exchanged, IsAnswered, IsRound, answers_of, asks_in, datagrams, items_of, replies, reply_in}
-use Rattle.ptu_lanes.specs.{Sending.{GoesOn, WasSent}, Waiting.{GaveFirst, MissedFew, Took}}
+use Rattle.ptu_lanes.specs.Rounds.{IsRound}
+use Rattle.ptu_lanes.specs.{Waiting.{GaveFirst, MissedFew, Took}}
 use Rattle.ptu_lanes.specs.Stretches.{CountsFailures, TookDelayReqs}
-use Rattle.ptu_lanes.proofs.Exchanges.{exchanged-append, exchanged_none}
 use Rattle.ptu_lanes.proofs.Taking.{none_taken, took-append, took_up_to}
 
 -- ---- what waited

@@ -1,7 +1,6 @@
 -- Orders at a running grandmaster, and the rounds of the lane that takes Signaling, where it is served by lanes: what each took of the
 -- control port, what was decided, and what was sent (the project's own choice).
-use Rattle.std.specs.Prelude.{◌≡◌, ◌≤◌, ℕ, zero, suc, ◌+◌, ◌%◌, Bool, true, false, List, [], ◌∷◌, ◌++◌, flat_map, length, Option, Some, None, Result, Ok, Err, unwrap_or}
-use Rattle.std.specs.List.{All, AllByRecursion}
+use Rattle.std.specs.Prelude.{◌≡◌, ℕ, zero, suc, ◌+◌, ◌%◌, Bool, true, false, List, [], ◌∷◌, ◌++◌, flat_map, length, Option, Some, None, Result, Ok, unwrap_or}
 use Rattle.ptu_units.specs.{declared.kind.Kind.{Kind}, Limits.{greatest_capacity}}
 use Rattle.ptu_outside.specs.{declared.arrival.Arrival.{Arrival}, Departure.{Departure}}
 use Rattle.ptu_units.specs.declared.client.Client.{Client}
@@ -14,7 +13,7 @@ use Rattle.ptu_config.specs.declared.command.Command.TheVariants as commands
 use Rattle.ptu_lanes.specs.declared.orders.Order.{Order}
 use Rattle.ptu_lanes.specs.declared.orders.Order.TheVariants as orders
 use Rattle.ptu_lanes.specs.Changing.{begins_changed, later_of, new_with, peak_capacity}
-use Rattle.ptu_lanes.specs.Rounds.{Exchange, IsAnswered, replies}
+use Rattle.ptu_lanes.specs.Rounds.{Exchange, replies}
 
 -- ---- what is asked for
 

@@ -1,5 +1,5 @@
 -- Settings, orders and rounds that were made out by hand.
-use Rattle.std.specs.Prelude.{◌≡◌, ℕ, Bool, true, false, List, [], ◌∷◌, Option, Some, None, Ok, Err}
+use Rattle.std.specs.Prelude.{◌≡◌, ℕ, true, false, [], ◌∷◌, Option, Some, None, Ok, Err}
 use Rattle.ptu_units.specs.declared.client.Client.{Client}
 use Rattle.ptu_units.specs.declared.kind.Kind.TheVariants as kinds
 use Rattle.ptu_config.specs.{declared.settings.GmSettings.{GmSettings}, Examples.{repeated}}

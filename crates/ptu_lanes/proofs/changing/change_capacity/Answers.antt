@@ -1,4 +1,4 @@
-use Rattle.std.proofs.Common.{◌≡◌, ◌∙◌, ◌+◌, ◌%◌, ap, sym, length}
+use Rattle.std.proofs.Common.{◌∙◌, ◌+◌, ◌%◌, ap, sym}
 use Rattle.std.proofs.lemmas.List.{length-map}
 use Rattle.ptu_admit.specs.declared.shed_list.Shed.{Shed}
 use Rattle.ptu_lanes.proofs.Moments.{passed_one}

@@ -1,7 +1,7 @@
-use Rattle.std.proofs.Common.{◌≡◌, ◌∙◌, ◌≤◌, refl, ap, arith, subst}
+use Rattle.std.proofs.Common.{◌≡◌, ◌∙◌, refl, ap, arith, subst}
 use Rattle.ptu_shared.specs.Turning.{all_turns, own_turns}
-use Rattle.ptu_lanes.specs.declared.lanes.{EventLane.{EventLane}, SendingLane.{SendingLane}, SendingLanes.{SendingLanes}}
-use Rattle.ptu_lanes.specs.Stretches.{EventLaneDid, HasTurned, HaveTurned, SendingLaneDid, TookDelayReqs}
+use Rattle.ptu_lanes.specs.declared.lanes.{EventLane.{EventLane}, SendingLanes.{SendingLanes}}
+use Rattle.ptu_lanes.specs.Stretches.{EventLaneDid, HaveTurned, TookDelayReqs}
 use Rattle.ptu_lanes.proofs.Outcomes.{came_left, came_served}
 use Rattle.ptu_lanes.proofs.crew.Crew.work.Goals as goal
 

@@ -1,4 +1,4 @@
-use Rattle.std.proofs.Common.{◌≡◌, ◌∙◌, ◌≤◌, Some, arith, sym, subst}
+use Rattle.std.proofs.Common.{◌≡◌, ◌∙◌, Some, arith, sym}
 use Rattle.ptu_lanes.specs.Changing.{new_with}
 use Rattle.ptu_lanes.proofs.{Beginning.{begun_changed, begun_none, new_within, on_ok_is, ordered_within}, Outcomes.{ok_of}}
 use Rattle.ptu_lanes.proofs.service.Service.begin_signaling.Goals as goal

@@ -1,4 +1,4 @@
-use Rattle.std.proofs.Common.{◌∙◌, refl}
+use Rattle.std.proofs.Common.{refl}
 use Rattle.ptu_lanes.proofs.Beginning.{executed_cancel}
 use Rattle.ptu_lanes.proofs.service.Service.execute_cancel.Goals as goal
 

@@ -1,4 +1,4 @@
-use Rattle.std.proofs.Common.{◌≡◌, Ok, arith, subst, sym}
+use Rattle.std.proofs.Common.{arith, subst, sym}
 use Rattle.ptu_lanes.specs.Stretches.{HasObeyed}
 use Rattle.ptu_lanes.proofs.{Beginning.{obeyed_none}, Outcomes.{ok_of}}
 use Rattle.ptu_lanes.proofs.service.Service.obey_any.Goals as goal

@@ -1,4 +1,4 @@
-use Rattle.std.proofs.Common.{◌≡◌, ◌∙◌, ◌<◌, arith, ap, sym}
+use Rattle.std.proofs.Common.{◌≡◌, ◌∙◌, arith, ap, sym}
 use Rattle.ptu_shared.specs.Seats.{SeatCounts}
 use Rattle.ptu_config.specs.Rounds.{all_rounds}
 use Rattle.ptu_lanes.specs.Orders.{peak_ordered}
