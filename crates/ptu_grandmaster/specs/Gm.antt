@@ -20,6 +20,10 @@ pub record KeptGm (P : Type 0) : Type 0 where
   pub refused : ℕ
   pub sequence : ℕ
 
+-- its ports, in order of index: those of the four tables, and that of Signaling messages
+abbrev pub five_ports : {P : Type 0} → KeptGm P → List P
+five_ports gm = gm.s0.port ∷ gm.s1.port ∷ gm.s2.port ∷ gm.s3.port ∷ gm.reply ∷ []
+
 -- the four tables, in order of index
 abbrev pub tables : {P : Type 0} → KeptGm P → List Lent
 tables gm = four gm.s0 gm.s1 gm.s2 gm.s3

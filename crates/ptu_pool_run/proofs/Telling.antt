@@ -5,13 +5,8 @@ use Rattle.ptu_outside.specs.{Departure.{Departure}, MemoryPort.{MemoryPort}}
 use Rattle.ptu_grandmaster.specs.Gm.{KeptGm, port_at, with_port}
 use Rattle.ptu_pool_run.specs.{Output.{pool_line_text}, Sending.{sent_line}}
 use Rattle.ptu_nodes.specs.{GrandmasterPorts.{in_ports}, Standing.{AreIdle}}
+use Rattle.ptu_nodes.proofs.HandedOver.{drop-at}
 use Rattle.ptu_pool_run.specs.Ports.{sent_texts}
-
--- what is left of a list from the place of one of its elements on
-drop-at : {A : Type 0} (xs : List A) (i : ℕ) (x : A) → slice_get xs i ≡ Some x → drop i xs ≡ x ∷ drop (i + 1) xs
-drop-at xs i x is =
-    let within : i < length xs = slice_get_within xs i x is in
-    rw (add-one, drop-cons xs i x) (ap (λ y. y ∷ drop (suc i) xs) (get_or_from_slice_get xs i x x is))
 
 -- of these datagrams those below the index are told: the texts, followed by those of the rest, are all
 abbrev pub AreTold : ℕ → ℕ → ℕ → List Departure → List (List ℕ) → List (List ℕ) → Type 0

@@ -58,7 +58,7 @@ heads sends = filter_map (λ (d : Departure). timing_to d.ip d.bytes) sends
 -- ---- what an event appends, and what it sends
 
 -- one record more
-append-option : (o : Option Timing) (xs ys : List Timing) → cons_option o (xs ++ ys) ≡ cons_option o xs ++ ys
+pub append-option : (o : Option Timing) (xs ys : List Timing) → cons_option o (xs ++ ys) ≡ cons_option o xs ++ ys
 append-option None xs ys = refl
 append-option (Some t) xs ys = refl
 
