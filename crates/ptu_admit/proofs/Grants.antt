@@ -18,7 +18,7 @@ use Rattle.ptu_shard.specs.Row.{IsDistinctByLease, is_row_of, lease_of, share_of
 use Rattle.ptu_shard.specs.Table.{Kept, StandsAt}
 use Rattle.ptu_shard.proofs.RowLists as rows
 use Rattle.ptu_shard.proofs.RowLists.{IsPresent, lease_cases, present_some, share_of-filter-le}
-use Rattle.ptu_shard.proofs.{Standing.{granted_row, stands_swept, is_live_row}, Turns.{live_kept}}
+use Rattle.ptu_shard.proofs.{Standing.{granted_row, is_live_row, stands_swept}, Turns.{live_kept}}
 use Rattle.ptu_admit.specs.{Lent.{Lent, is_elsewhere, rates_elsewhere}, Newest.{grant_of}}
 use Rattle.ptu_admit.specs.{Rows.{kept_rate, live_rows}, Tables.{IsSwept}}
 use Rattle.ptu_admit.proofs.Sums.{Contains-from_map, Contains-map, IsMapped, distinct_grants, rate, rate_sum-within, share_of-grants, share_of-permuted, share_of-without}

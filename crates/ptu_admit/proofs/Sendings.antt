@@ -12,7 +12,7 @@ use Rattle.ptu_history.specs.{Live.{Grant, IsLastDecision}, Step.{answer_records
 use Rattle.ptu_history.specs.Turns.{due_grants, sent_record}
 use Rattle.ptu_history.proofs.AfterSteps.{capacity_in_force-quiet, sent_unchanged}
 use Rattle.ptu_units.proofs.Keys.{same_lease-true}
-use Rattle.ptu_history.proofs.Moments.{book_moment-none, greatest-sent, answer_looked}
+use Rattle.ptu_history.proofs.Moments.{answer_looked, book_moment-none, greatest-sent}
 use Rattle.ptu_history.proofs.Orders.{due_grants-table}
 use Rattle.ptu_shard.specs.{declared.lease.Row.{Row}, Row.{share_of}, Table.{StandsAt}}
 use Rattle.ptu_shard.specs.Turn.{spent_row, spent_where}

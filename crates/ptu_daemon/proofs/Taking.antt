@@ -19,7 +19,7 @@ use Rattle.ptu_outside.specs.declared.reply.Reply.{Reply}
 use Rattle.ptu_outside.specs.declared.reply.Reply.TheVariants as replies
 use Rattle.ptu_grandmaster.specs.declared.outcome.Taken.{Taken}
 use Rattle.ptu_grandmaster.specs.declared.outcome.Taken.TheVariants.{Ignored, Delay, Asked}
-use Rattle.ptu_grandmaster.specs.Gm.{KeptGm, StandsFor, table_at, with_table, five_ports}
+use Rattle.ptu_grandmaster.specs.Gm.{KeptGm, StandsFor, five_ports, table_at, with_table}
 use Rattle.ptu_grandmaster.specs.Outcomes.{answers_seen, decisions_seen}
 use Rattle.ptu_grandmaster.specs.Taking.{ComesTo, IsAnswerTo, OnAsked, OnDelay, OnIgnored, Replies, Responds}
 use Rattle.ptu_outside.specs.Replies.{reply_failed, reply_sent}

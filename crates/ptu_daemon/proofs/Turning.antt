@@ -9,7 +9,7 @@ use Rattle.ptu_history.specs.{History.{Record}, Live.{Grant}, Turns.{due_grants,
 use Rattle.ptu_shard.specs.{Messages.{departure_of}, Turn.{due_messages}}
 use Rattle.ptu_gm_messages.specs.Deciding.{opened_with}
 use Rattle.ptu_grandmaster.specs.declared.driving.GmEvent.TheVariants.{Turn}
-use Rattle.ptu_grandmaster.specs.Gm.{KeptGm, StandsFor, table_at, with_table, five_ports}
+use Rattle.ptu_grandmaster.specs.Gm.{KeptGm, StandsFor, five_ports, table_at, with_table}
 use Rattle.ptu_daemon.specs.{Ran.{AllHandled, Does, Handled}, Sends.{by}}
 use Rattle.ptu_daemon.proofs.Handling.{all_same, five_handled, handled_same, hands_handled}
 

@@ -16,7 +16,7 @@ use Rattle.ptu_gm_messages.specs.declared.heard.Heard.{Heard}
 use Rattle.ptu_gm_messages.specs.declared.heard.Heard.TheVariants as heard
 use Rattle.ptu_gm_messages.specs.Items.{heard_by, heard_in, of_message}
 use Rattle.ptu_messages.specs.Message.{HasTlvs}
-use Rattle.ptu_gm_messages.proofs.Hearing.{signaling_alone, IsAsked}
+use Rattle.ptu_gm_messages.proofs.Hearing.{IsAsked, signaling_alone}
 
 pub history_after-none : (opened : Config) (history : List Record) → history_after opened history [] ≡ history
 unfolding history_after

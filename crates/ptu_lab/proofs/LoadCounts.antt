@@ -10,7 +10,7 @@ use Rattle.ptu_report_lines.specs.declared.report_line.ReportLine.{ReportLine}
 use Rattle.ptu_report_lines.specs.declared.report_line.ReportLine.TheVariants.{At, End}
 use Rattle.ptu_report_lines.specs.declared.statement.Statement.{Statement}
 use Rattle.ptu_report_lines.specs.declared.statement.Statement.TheVariants.{Bad}
-use Rattle.ptu_world.specs.{World.{World, Stock, Done, opening, step, no_judges}, Facts.{EndsBy, world_of}}
+use Rattle.ptu_world.specs.{World.{Done, Stock, World, no_judges, opening, step}, Facts.{EndsBy, world_of}}
 use Rattle.ptu_world.specs.Report.{course_opening, lines_by, lines_by_line, lines_from, report_lines, rules}
 use Rattle.ptu_world.proofs.Reported.{ends_of_rules}
 use Rattle.ptu_report.specs.Runs.{CountsRead, CountsWrite}

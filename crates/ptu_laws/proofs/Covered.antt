@@ -16,7 +16,7 @@ use Rattle.ptu_units.proofs.Keys.{same_lease-true}
 use Rattle.ptu_history.proofs.Lists.{list_any-filter}
 use Rattle.ptu_history.proofs.Members.{pairs_front, pairs_rest}
 use Rattle.ptu_laws.specs.Paid.{IsBefore, IsPaid, is_held_at, is_term_at}
-use Rattle.ptu_laws.proofs.{Sums.{sum-filter}}
+use Rattle.ptu_laws.proofs.Sums.{sum-filter}
 
 -- rate times period is the same for each logarithm in range
 pub in_any : (k : Kind) (l : ℤ) → IsLogOf k l → (negsuc 6 ≤ℤ l) × (l ≤ℤ pos 4)

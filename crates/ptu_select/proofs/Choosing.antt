@@ -8,7 +8,7 @@ use Rattle.std.specs.Prelude.{slice_index}
 use Rattle.ptu_record.specs.{declared.quality.Quality.{Quality}, Quality.{is_usable, rank_of}}
 use Rattle.ptu_record.specs.{Record.{Record, record_of}, SignalFails.{Timeouts}}
 use Rattle.ptu_record.specs.Selection.{IsBest, IsSelected, is_better, is_candidate, level, selected_master}
-use Rattle.ptu_record.proofs.Choice.{one_choice, selected_is, before, before-self}
+use Rattle.ptu_record.proofs.Choice.{before, before-self, one_choice, selected_is}
 use Rattle.ptu_select.specs.declared.state.WatchState.{WatchState}
 use Rattle.ptu_select.specs.WatchState.{is_eligible_state, state_at, state_of}
 use Rattle.ptu_select.proofs.Watching.{state_of-is}

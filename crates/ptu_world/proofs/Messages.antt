@@ -62,7 +62,7 @@ pub append-option : (o : Option Timing) (xs ys : List Timing) → cons_option o 
 append-option None xs ys = refl
 append-option (Some t) xs ys = refl
 
-messages_in-append : (epoch : ℕ) (before xs ys : List Record) → messages_in epoch before (xs ++ ys) ≡ messages_in epoch before xs ++ messages_in epoch (before ++ xs) ys
+pub messages_in-append : (epoch : ℕ) (before xs ys : List Record) → messages_in epoch before (xs ++ ys) ≡ messages_in epoch before xs ++ messages_in epoch (before ++ xs) ys
 messages_in-append epoch before [] ys = ap (λ h. messages_in epoch h ys) (sym (append-nil before))
 messages_in-append epoch before (x ∷ xs) ys =
     ap (cons_option (message_in epoch before x)) (messages_in-append epoch (before ++ x ∷ []) xs ys ∙ ap (λ h. messages_in epoch (before ++ x ∷ []) xs ++ messages_in epoch h ys) (append_assoc before (x ∷ []) xs))
