@@ -1,6 +1,6 @@
 -- Datagrams that were made out by hand, field by field, and what the definitions say of them.
 use Rattle.std.specs.Prelude.{◌≡◌, ℕ, List, [], ◌∷◌, ◌++◌, map, take, slice_set, negsuc, pos, Ok, Err}
-use Rattle.ptu_units.specs.declared.{client.Client.{Client}, kind.Kind.TheVariants as kind}
+use Rattle.ptu_units.specs.declared.kind.Kind.TheVariants as kind
 use Rattle.ptu_messages.specs.declared.tlv.Ask.{Ask}
 use Rattle.ptu_messages.specs.declared.tlv.Tlv.TheVariants as tlv
 use Rattle.ptu_messages.specs.declared.header_fault.HeaderFault.TheVariants.{Short}

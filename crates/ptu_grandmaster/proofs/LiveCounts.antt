@@ -1,5 +1,5 @@
 -- How many grants are live, by the rows of the tables.
-use Rattle.std.proofs.Common.{◌≡◌, ◌∙◌, ◌⊎◌, inl, inr, ℕ, zero, suc, ◌+◌, ◌<◌, ◌≤◌, List, [], ◌∷◌, map, Bool, true, false, not, cond, eqb, refl, sym, ap, arith}
+use Rattle.std.proofs.Common.{◌≡◌, ◌∙◌, ◌⊎◌, inl, inr, ℕ, zero, suc, ◌+◌, ◌<◌, ◌≤◌, List, [], ◌∷◌, map, Bool, true, false, not, cond, eqb, refl, sym, ap, subst, arith}
 use Rattle.std.specs.{List.{Contains, filter, sum_by}}
 use Rattle.std.proofs.lemmas.List.{Filters.{sum_by-filter_both}, Kept.{AllPairs-filter}, Sums.{sum_by-cons}}
 use Rattle.ptu_units.specs.declared.kind.{Kind.{Kind}, Kind.TheVariants.{Announce, Sync, DelayResp}}

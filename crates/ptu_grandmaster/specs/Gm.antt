@@ -1,5 +1,5 @@
 -- What callers see of a grandmaster, and the histories that it stands for.
-use Rattle.std.specs.{Prelude.{◌≡◌, ℕ, ◌%◌, ◌==◌, if◌then◌else◌, List}, List.Sorted.{IsPermutation}}
+use Rattle.std.specs.{Prelude.{◌≡◌, ℕ, ◌%◌, ◌==◌, if◌then◌else◌, List, [], ◌∷◌}, List.Sorted.{IsPermutation}}
 use Rattle.ptu_units.specs.Counts.{counted}
 use Rattle.ptu_history.specs.{Counts.{counts}, History.{Record}}
 use Rattle.ptu_profile.specs.declared.grandmaster.GmConfig.{GmConfig}
