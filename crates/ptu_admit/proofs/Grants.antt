@@ -18,7 +18,7 @@ use Rattle.ptu_shard.specs.Row.{IsDistinctByLease, is_row_of, lease_of, share_of
 use Rattle.ptu_shard.specs.Table.{Kept, StandsAt}
 use Rattle.ptu_shard.proofs.RowLists as rows
 use Rattle.ptu_shard.proofs.RowLists.{IsPresent, lease_cases, present_some, share_of-filter-le}
-use Rattle.ptu_shard.proofs.{Standing.{granted_row, stands_swept}, Turns.{live_kept}}
+use Rattle.ptu_shard.proofs.{Standing.{granted_row, is_live_row, stands_swept}, Turns.{live_kept}}
 use Rattle.ptu_admit.specs.{Lent.{Lent, is_elsewhere, rates_elsewhere}, Newest.{grant_of}}
 use Rattle.ptu_admit.specs.{Rows.{kept_rate, live_rows}, Tables.{IsSwept}}
 use Rattle.ptu_admit.proofs.Sums.{Contains-from_map, Contains-map, IsMapped, distinct_grants, rate, rate_sum-within, share_of-grants, share_of-permuted, share_of-without}
@@ -34,10 +34,6 @@ apart_twice p q history x =
 -- the grant's client belongs to the table
 abbrev pub in_table : ℕ → Grant → Bool
 in_table j g = eqb (table_of g.client) j
-
--- the row is live at the moment
-abbrev pub is_live_row : ℕ → Row → Bool
-is_live_row x row = ltb x row.lease.until
 
 -- a grant is its five parts
 same_grant : (a b : Grant) → a.start ≡ b.start → a.client ≡ b.client → a.kind ≡ b.kind → a.log ≡ b.log → a.until ≡ b.until → a ≡ b

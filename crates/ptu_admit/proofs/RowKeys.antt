@@ -15,9 +15,7 @@ use Rattle.ptu_shard.proofs.RowLists.{Differ, HasSameMembers, IsPresent, lease_c
 use Rattle.ptu_admit.specs.{Lent.{Lent, shares}, Newest.{rows_in}}
 use Rattle.ptu_admit.specs.Rows.{has_live_row, kept_rate, live_rows}
 use Rattle.ptu_shard.proofs.SoFar.{length-filter-le}
-
-abbrev is_live_row : ℕ → Row → Bool
-is_live_row x row = ltb x row.lease.until
+use Rattle.ptu_shard.proofs.Standing.{is_live_row}
 
 -- of distinct rows one is of the client and kind
 pub same_row : (c : Client) (k : Kind) (xs : List Row) → Apart Differ xs → (a b : Row) → Contains xs a → Contains xs b → is_row_of c k a ≡ true → is_row_of c k b ≡ true → a ≡ b

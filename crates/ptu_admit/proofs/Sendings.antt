@@ -12,7 +12,7 @@ use Rattle.ptu_history.specs.{Live.{Grant, IsLastDecision}, Step.{answer_records
 use Rattle.ptu_history.specs.Turns.{due_grants, sent_record}
 use Rattle.ptu_history.proofs.AfterSteps.{capacity_in_force-quiet, sent_unchanged}
 use Rattle.ptu_units.proofs.Keys.{same_lease-true}
-use Rattle.ptu_history.proofs.Moments.{book_moment-none, greatest-sent}
+use Rattle.ptu_history.proofs.Moments.{answer_looked, book_moment-none, greatest-sent}
 use Rattle.ptu_history.proofs.Orders.{due_grants-table}
 use Rattle.ptu_shard.specs.{declared.lease.Row.{Row}, Row.{share_of}, Table.{StandsAt}}
 use Rattle.ptu_shard.specs.Turn.{spent_row, spent_where}
@@ -104,11 +104,6 @@ answer_of x c Answered = (sent_of x (table_of c) c DelayResp refl, tt)
 answer_of x c NoGrant = tt
 answer_of x c (TooSoon earliest) = tt
 
-answer_quiet : (x : ℕ) (c : Client) (answer : Answer) → greatest_by book_part (Looked x (table_of c) ∷ answer_records x c answer) ≡ 0
-answer_quiet x c Answered = refl
-answer_quiet x c NoGrant = refl
-answer_quiet x c (TooSoon earliest) = refl
-
 answer_unchanged : (x : ℕ) (c : Client) (answer : Answer) → list_any is_change (Looked x (table_of c) ∷ answer_records x c answer) ≡ false
 answer_unchanged x c Answered = refl
 answer_unchanged x c NoGrant = refl
@@ -134,6 +129,6 @@ delay_req_stands opening x test c moment after rows spent rest book history s no
     sends_stand opening (table_of c) rows spent moment after rest book history (Looked x (table_of c) ∷ answer_records x c (delay_answer history x c)) s none
     (looked_of x (table_of c), answer_of x c (delay_answer history x c))
     (spent_all test x rows spent h)
-    (answer_quiet x c (delay_answer history x c))
+    (answer_looked x c (delay_answer history x c))
     (answer_unchanged x c (delay_answer history x c))
     stands

@@ -5,7 +5,7 @@ use Rattle.std.proofs.lemmas.Bool.{le-leb, lt-leb, lt-ltb}
 use Rattle.std.proofs.lemmas.List.Elements.{Contains-append_cases, Contains-append_left, Contains-append_right}
 use Rattle.std.proofs.lemmas.List.Sorted.{sum_by-IsPermutation}
 use Rattle.ptu_units.specs.Client.{same_lease, table_of}
-use Rattle.ptu_history.specs.History.{Record, Granted, Shed}
+use Rattle.ptu_history.specs.History.{Granted, Record, Shed}
 use Rattle.ptu_history.specs.Live.{Grant, IsLastDecision, last_decision, live_grants}
 use Rattle.ptu_history.specs.{Order.{in_order}, Verdict.{rate_sum}}
 use Rattle.ptu_history.specs.Shedding.{shed_cmp, shed_order, shed_prefix}

@@ -3,7 +3,7 @@
 ghost use Rattle.std.specs.Prelude.{◌≡◌, ◌≢◌, ℕ, ◌+◌, ◌-◌, ◌*◌, ◌≤◌, ◌<◌, min, nat_le, List, [], ◌∷◌, ◌++◌, IfSome, IfNone};
 ghost use Rattle.ptu_units.specs.{Client.{table_of}, Log.{period_of, rate_of}, Time.{second}};
 ghost use Rattle.ptu_admit.specs.Book.{IsInForce};
-ghost use Rattle.ptu_history.specs.History.{Record, Granted};
+ghost use Rattle.ptu_history.specs.History.{Granted, Record};
 ghost use Rattle.ptu_history.specs.Step.{verdict_records};
 ghost use Rattle.ptu_shard.specs.{Row.{IsDistinctByLease, share_of}, Table.{StandsBeside}};
 ghost use Rattle.ptu_admit.specs.{Rows.{kept_rate}, Tables.{KeepsPort}};

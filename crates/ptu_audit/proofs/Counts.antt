@@ -10,6 +10,7 @@ use Rattle.ptu_audit.specs.declared.{deed.Finding.{Finding}, line.Line.{Line}, l
 use Rattle.ptu_audit.specs.declared.line.Said.TheVariants as said
 use Rattle.ptu_audit.specs.Groups.{act_at, acts_by, acts_of, answered_acts, answered_client, are_few_and_answered, are_told, changed, decided_acts, decides, groups_of, in_front, is_of_script, last_apart, message_at, messages_in as messages_told, said_deed, shedding_of, sheddings, with_line}
 use Rattle.ptu_units.specs.Counts.{counted}
+use Rattle.ptu_units.proofs.Counts.{counted-whole}
 use Rattle.ptu_audit.specs.Trails.{acts_in, audit_answer_by, audit_answer_of, as_counted, grant_acts_in, groups_finding, is_grant_deed, is_message, message_acts_in}
 
 -- ---- a group tells of no more acts than it has lines
@@ -116,14 +117,11 @@ groups_total lines = all_lines [] lines ∙ omega arith
 
 -- ---- so the counts of an answer do not end
 
-not_ended : (n : ℕ) → n ≤ 2 ^ 64 - 1 → counted n ≡ n
-not_ended n few = omega (arith, few)
-
 exact_by : (found : Option Finding) (acts : List Act) → length acts ≤ 2 ^ 64 - 1 → as_counted (audit_answer_by found acts) ≡ audit_answer_by found acts
 exact_by None acts few =
     ap₂ answers.Yes
-    (not_ended (grant_acts_in acts) (omega (arith, few, count_by-le-length (λ (act : Act). is_grant_deed act.deed) acts)))
-    (not_ended (message_acts_in acts) (omega (arith, few, count_by-le-length (λ (act : Act). is_message act.deed) acts)))
+    (counted-whole (grant_acts_in acts) (omega (arith, few, count_by-le-length (λ (act : Act). is_grant_deed act.deed) acts)))
+    (counted-whole (message_acts_in acts) (omega (arith, few, count_by-le-length (λ (act : Act). is_message act.deed) acts)))
 exact_by (Some finding) acts few = refl
 
 pub counts_exact : (capacity : ℕ) (lines : List Line) → length lines ≤ 2 ^ 64 - 1 → as_counted (audit_answer_of capacity lines) ≡ audit_answer_of capacity lines

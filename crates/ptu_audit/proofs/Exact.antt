@@ -6,9 +6,11 @@ use Rattle.std.proofs.lemmas.List.{Concat.{flat_map-append}, Sums.{fold-append}}
 use Rattle.std.proofs.lemmas.Bool.{true≢false}
 use Rattle.ptu_history.specs.History as history
 use Rattle.ptu_history.specs.History.{Record}
+use Rattle.ptu_history.specs.Counts.{is_shedding}
 use Rattle.ptu_laws.specs.Sound.{sheds_at}
 use Rattle.ptu_trail.specs.declared.cause.{Fault.{Fault}, NoCause.{NoCause}, Shedding.{Shedding}}
-use Rattle.ptu_trail.specs.Faults.{behind, fault_of, first_fault, is_shed_record, message_to, or_behind, record_of}
+use Rattle.ptu_trail.specs.Faults.{behind, fault_of, first_fault, message_to, or_behind, record_of}
+use Rattle.ptu_trail.proofs.Faultless.{IsNoShedding, behind-none, none-both, or_behind-none}
 use Rattle.ptu_audit.specs.declared.{line.Line.{Line}, deed.Act.{Act}, deed.Deed.{Deed}}
 use Rattle.ptu_audit.specs.declared.deed.Deed.TheVariants.{Granted, Ended, Changed, Sent}
 use Rattle.ptu_audit.specs.Groups.{acts_of}
@@ -16,22 +18,7 @@ use Rattle.ptu_audit.specs.Trails.{AreSound, act_finding, acts_finding, acts_in,
 use Rattle.ptu_audit.proofs.Faultless.{AreFaultless, Laws, acts_in-more, faultless, none_both}
 use Rattle.ptu_audit.proofs.Ledgers.{trail_own}
 
-none_behind : (later : Option Fault) → behind later ≡ None → later ≡ None
-none_behind None e = refl
-none_behind (Some fault) e = absurd cc
-
-none_parts : (here : Option NoCause) (later : Option Fault) → or_behind here later ≡ None → (here ≡ None) × (later ≡ None)
-none_parts None later e = (refl, none_behind later e)
-none_parts (Some cause) later e = absurd cc
-
-none_whole : (here : Option NoCause) (later : Option Fault) → here ≡ None → later ≡ None → or_behind here later ≡ None
-none_whole here later e f = ap (λ h. or_behind h later) e ∙ ap behind f
-
 -- ---- records behind those of an act
-
-abbrev IsNoShedding : List Record → Type 0
-IsNoShedding [] = Unit {0}
-IsNoShedding (r ∷ rest) = is_shed_record r ≡ false
 
 no_shedding : (before : List Record) (deed : Deed) (more : List Record) → IsNoShedding (records_of before deed ++ more)
 no_shedding before (Granted at client kind log until) more = refl
@@ -66,16 +53,16 @@ module _ (opening : ℕ) where
   behind_front before [] rest e = ap (λ h. first_fault opening h rest) (append-nil before) ∙ e
   behind_front before (r ∷ front) rest e =
       ap (λ h. first_fault opening h rest) (sym (append_assoc before (r ∷ []) front))
-      ∙ behind_front (before ++ r ∷ []) front rest (none_parts (fault_of opening before r (front ++ rest)) (first_fault opening (before ++ r ∷ []) (front ++ rest)) e).1
+      ∙ behind_front (before ++ r ∷ []) front rest (or_behind-none (fault_of opening before r (front ++ rest)) (first_fault opening (before ++ r ∷ []) (front ++ rest)) e).1
 
   sheds_front : (before : List Record) (x : ℕ) (shed : List Shedding) (more : List Record) → first_fault opening before (map (record_of x) shed ++ more) ≡ None → first_fault opening before (map (record_of x) shed) ≡ None
   sheds_front before x [] more e = refl
   sheds_front before x (s ∷ shed) more e =
-      let parts = none_parts (fault_of opening before (record_of x s) []) (first_fault opening (before ++ record_of x s ∷ []) (map (record_of x) shed ++ more)) e in
-      none_whole (fault_of opening before (record_of x s) []) (first_fault opening (before ++ record_of x s ∷ []) (map (record_of x) shed)) parts.0 (sheds_front (before ++ record_of x s ∷ []) x shed more parts.1)
+      let parts = or_behind-none (fault_of opening before (record_of x s) []) (first_fault opening (before ++ record_of x s ∷ []) (map (record_of x) shed ++ more)) e in
+      none-both (fault_of opening before (record_of x s) []) (first_fault opening (before ++ record_of x s ∷ []) (map (record_of x) shed)) parts.0 (sheds_front (before ++ record_of x s ∷ []) x shed more parts.1)
 
   one_front : (before : List Record) (r : Record) (more : List Record) → fault_of opening before r more ≡ fault_of opening before r [] → first_fault opening before (r ∷ more) ≡ None → first_fault opening before (r ∷ []) ≡ None
-  one_front before r more same e = none_whole (fault_of opening before r []) None (sym same ∙ (none_parts (fault_of opening before r more) (first_fault opening (before ++ r ∷ []) more) e).0) refl
+  one_front before r more same e = none-both (fault_of opening before r []) None (sym same ∙ (or_behind-none (fault_of opening before r more) (first_fault opening (before ++ r ∷ []) more) e).0) refl
 
   deed_front : (before : List Record) (deed : Deed) (more : List Record) → IsNoShedding more → first_fault opening before (records_of before deed ++ more) ≡ None → first_fault opening before (records_of before deed) ≡ None
   deed_front before (Granted at client kind log until) more other e = one_front before (history.Granted at client kind log until) more refl e
@@ -83,9 +70,9 @@ module _ (opening : ℕ) where
   deed_front before (Changed at n shed) more other e =
       let c : Record = history.Capacity at n in
       let sheds : List Record = map (record_of at) shed in
-      let parts = none_parts (fault_of opening before c (sheds ++ more)) (first_fault opening (before ++ c ∷ []) (sheds ++ more)) e in
+      let parts = or_behind-none (fault_of opening before c (sheds ++ more)) (first_fault opening (before ++ c ∷ []) (sheds ++ more)) e in
       let same : fault_of opening before c (sheds ++ more) ≡ fault_of opening before c sheds = rw (own_shed at shed more other) in
-      none_whole (fault_of opening before c sheds) (first_fault opening (before ++ c ∷ []) sheds) (sym same ∙ parts.0) (sheds_front (before ++ c ∷ []) at shed more parts.1)
+      none-both (fault_of opening before c sheds) (first_fault opening (before ++ c ∷ []) sheds) (sym same ∙ parts.0) (sheds_front (before ++ c ∷ []) at shed more parts.1)
   deed_front before (Sent stamp ip kind) more other e = one_front before (message_to before stamp ip kind) more refl e
 
 -- ---- acts and groups

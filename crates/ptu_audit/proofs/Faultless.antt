@@ -4,8 +4,9 @@ use Rattle.std.specs.Option.{unwrap_or}
 use Rattle.std.proofs.lemmas.{Bool.{eqb-true}, List.{append-nil}, List.Concat.{flat_map-append}}
 use Rattle.ptu_history.specs.History.{Record}
 use Rattle.ptu_history.specs.History as history
+use Rattle.ptu_history.specs.Counts.{is_shedding}
 use Rattle.ptu_trail.specs.declared.cause.Shedding.{Shedding}
-use Rattle.ptu_trail.specs.Faults.{IsFaultless, fault_of, first_fault, is_shed_record, message_to, or_behind, record_of}
+use Rattle.ptu_trail.specs.Faults.{IsFaultless, fault_of, first_fault, message_to, or_behind, record_of}
 use Rattle.ptu_trail.specs.declared.cause.NoCause.{NoCause}
 use Rattle.ptu_audit.specs.declared.{line.Line.{Line}, deed.Act.{Act}, deed.Deed.{Deed}}
 use Rattle.ptu_audit.specs.declared.deed.Deed.TheVariants.{Granted, Ended, Changed, Sent}
@@ -28,7 +29,7 @@ front_none (Some cause) e = absurd cc
 -- the laws of trails without a fault, one record after the other
 pub record Laws : Type 0 where
   pub none : (opening : ℕ) → IsFaultless opening []
-  pub one_more : (opening : ℕ) (trail : List Record) (r : Record) → IsFaultless opening trail → is_shed_record r ≡ false → fault_of opening trail r [] ≡ None → IsFaultless opening (trail ++ r ∷ [])
+  pub one_more : (opening : ℕ) (trail : List Record) (r : Record) → IsFaultless opening trail → is_shedding r ≡ false → fault_of opening trail r [] ≡ None → IsFaultless opening (trail ++ r ∷ [])
   pub change : (opening : ℕ) (trail : List Record) (x capacity : ℕ) (shed : List Shedding) → IsFaultless opening trail
       → first_fault opening trail (history.Capacity x capacity ∷ map (record_of x) shed) ≡ None → IsFaultless opening (trail ++ history.Capacity x capacity ∷ map (record_of x) shed)
   pub first : (opening : ℕ) (trail : List Record) → IsFaultless opening trail → first_fault opening [] trail ≡ None

@@ -1,5 +1,6 @@
 -- What holds of the trails of a report in which nothing is found.
 use Rattle.std.proofs.Common.{◌≡◌, ◌∙◌, ℕ, ◌+◌, ◌≤◌, ◌++◌, Bool, true, false, cond, eqb, List, [], ◌∷◌, length, map, take, Option, Some, None, refl, sym, ap, subst, arith, length-append}
+use Rattle.std.proofs.ByRecursion.{All-append}
 use Rattle.std.specs.Prelude.{IfSome, Ok, filter_map}
 use Rattle.std.specs.List.{AllByRecursion, cons_option, filter, flat_map, fold, list_any}
 use Rattle.std.specs.Option.{unwrap_or}
@@ -46,10 +47,6 @@ IsDeed _ = Unit {0}
 abbrev AreActs : List Act → Type 0
 AreActs acts = AllByRecursion (λ act. IsDeed act.deed) acts
 
-all_append : {X : Type 0} (P : X → Type 0) (xs ys : List X) → AllByRecursion P xs → AllByRecursion P ys → AllByRecursion P (xs ++ ys)
-all_append P [] ys h k = k
-all_append P (x ∷ xs) ys h k = (h.0, all_append P xs ys h.1 k)
-
 all_mapped : {X Y : Type 0} (P : X → Type 0) (Q : Y → Type 0) (f : X → Option Y) → ((x : X) → P x → IfSome (f x) Q) → (xs : List X) → AllByRecursion P xs → AllByRecursion Q (filter_map f xs)
 all_mapped P Q f h [] all = tt
 all_mapped P Q f h (x ∷ xs) all = at (f x) (h x all.0) (all_mapped P Q f h xs all.1)
@@ -60,7 +57,7 @@ all_mapped P Q f h (x ∷ xs) all = at (f x) (h x all.0) (all_mapped P Q f h xs 
 
 all_flat : {X Y : Type 0} (P : X → Type 0) (Q : Y → Type 0) (f : X → List Y) → ((x : X) → P x → AllByRecursion Q (f x)) → (xs : List X) → AllByRecursion P xs → AllByRecursion Q (flat_map f xs)
 all_flat P Q f h [] all = tt
-all_flat P Q f h (x ∷ xs) all = all_append Q (f x) (flat_map f xs) (h x all.0) (all_flat P Q f h xs all.1)
+all_flat P Q f h (x ∷ xs) all = All-append Q (f x) (flat_map f xs) (h x all.0) (all_flat P Q f h xs all.1)
 
 -- ---- groups
 
@@ -69,7 +66,7 @@ with_line_in [] line all h = ((h, tt), tt)
 with_line_in (group ∷ []) line all h = at (is_of_script group line.script)
   where
     at : (b : Bool) → AreGroups (cond b ((group ++ line ∷ []) ∷ []) (group ∷ (line ∷ []) ∷ []))
-    at true = (all_append (λ (l : Line). IsSaidInRange l.said) group (line ∷ []) all.0 (h, tt), tt)
+    at true = (All-append (λ (l : Line). IsSaidInRange l.said) group (line ∷ []) all.0 (h, tt), tt)
     at false = (all.0, ((h, tt), tt))
 with_line_in (group ∷ next ∷ groups) line all h = (all.0, with_line_in (next ∷ groups) line all.1 h)
 
@@ -191,7 +188,7 @@ trail_from_in : (g : ℕ) (before : List Record) (acts : List Act) → AreInRang
 trail_from_in g before [] b h = b
 trail_from_in g before (act ∷ acts) b h =
     at (eqb act.grandmaster g)
-    (trail_from_in g (trail_with before act) acts (all_append IsInRange before (records_of before act.deed) b (records_in before act.deed h.0)) h.1)
+    (trail_from_in g (trail_with before act) acts (All-append IsInRange before (records_of before act.deed) b (records_in before act.deed h.0)) h.1)
     (trail_from_in g before acts b h.1)
   where
     at : (own : Bool) → AreInRange (fold trail_with (trail_with before act) (filter (is_act_by g) acts)) → AreInRange (fold trail_with before (filter (is_act_by g) acts))
@@ -226,7 +223,7 @@ taken r number text after texts (Some (report.At script entry)) is e = at (is_di
           quiet = sym none;
           capacity = ap (λ (q : Reading). q.capacity) (sym same);
           lines = λ h. subst (λ (q : Reading). AreLines q.lines) same
-              (all_append (λ (l : Line). IsSaidInRange l.said) r.lines (record { number = number; script = script; said = said_by entry } ∷ []) h (said_within text script entry is, tt));
+              (All-append (λ (l : Line). IsSaidInRange l.said) r.lines (record { number = number; script = script; said = said_by entry } ∷ []) h (said_within text script entry is, tt));
           more = omega (arith, ap (λ (q : Reading). length q.lines) same, length-append r.lines (record { number = number; script = script; said = said_by entry } ∷ []));
         }
 taken r number text after texts (Some (report.End count datagrams)) is e = at r.ended e

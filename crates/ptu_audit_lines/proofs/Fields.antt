@@ -1,6 +1,7 @@
 -- A form by its places: the line has it where each of its words is in its place, and no further word is there.
 use Rattle.std.proofs.Common.{◌≡◌, ◌∙◌, ℕ, ◌+◌, Bool, true, false, not, ◌&&◌, List, [], ◌∷◌, drop, codes, Option, Some, None, ℤ, pos, refl, sym, ap}
 use Rattle.std.specs.{Prelude.{slice_get, option_and_then, if◌then◌else◌, OnSome, ⊤}, Option.{is_some}, Str.{bytes_eq}}
+use Rattle.std.proofs.Math.Bool.{and-false}
 use Rattle.ptu_lines.specs.Words.{int_within, ip_of, word_of, words_of}
 use Rattle.ptu_audit_lines.specs.Words.{any_number, channel_of, field, is_channel, is_numbered, is_text, kind_named, log_of_kind, log_outside, no_word, octet_log}
 use Rattle.ptu_audit_lines.specs.Forms.{fit, fits, fits_one, fitting, is_in_place}
@@ -124,17 +125,13 @@ end_fits line = fit_at (words_of (codes "end NUM NUM")) (words_of line) 0 ∙ (�
 
 -- ---- forms with another name
 
-and_false : (b : Bool) → (b && false) ≡ false
-and_false true = refl
-and_false false = refl
-
 -- the second word of the form is not that of the line
 other_name : (form line name first : List ℕ) (places : List (List ℕ)) → words_of form ≡ first ∷ name ∷ places → ((word : List ℕ) → is_in_place name word ≡ bytes_eq word name)
     → is_some (field 2 (is_text name) line) ≡ false → fits form line ≡ false
 unfolding fits
 other_name form line name first places form_is literal none =
     ap (λ ws. fit ws (words_of line)) form_is ∙ fit_at (first ∷ name ∷ places) (words_of line) 0
-    ∙ (λ i. in_at first (word_of line 1) && ((text_at name line 2 literal ∙ none) i && fits_from places (words_of line) 2)) ∙ and_false (in_at first (word_of line 1))
+    ∙ (λ i. in_at first (word_of line 1) && ((text_at name line 2 literal ∙ none) i && fits_from places (words_of line) 2)) ∙ and-false (in_at first (word_of line 1))
 
 pub none_node : (line : List ℕ) → is_some (field 2 (is_text (codes "selected")) line) ≡ false → is_some (field 2 (is_text (codes "nobody")) line) ≡ false → fits_one node_forms line ≡ false
 unfolding is_in_place

@@ -175,7 +175,7 @@ are_spoken-push [] d (a ∷ waiting) h is = (sym is, tt)
 are_spoken-push (x ∷ ds) d [] (one, h) is = (one, are_spoken-push ds d [] h is)
 are_spoken-push (x ∷ ds) d (a ∷ waiting) (one, h) is = (one, are_spoken-push ds d waiting h is)
 
-until_none : (settings : GmSettings) (count : ℕ) → rounds_until settings count [] ≡ count
+pub until_none : (settings : GmSettings) (count : ℕ) → rounds_until settings count [] ≡ count
 until_none settings zero = refl
 until_none settings (suc count) = refl
 

@@ -11,7 +11,7 @@ use Rattle.ptu_history.specs.{History.{Record}, Verdict.{table_rates}}
 use Rattle.ptu_profile.specs.Grandmaster.{IsWithinLimits}
 use Rattle.ptu_grandmaster.specs.declared.driving.GmEvent.{GmEvent}
 use Rattle.ptu_units.specs.{Counts.{counted}, Limits.{IsCapacity}}
-use Rattle.ptu_grandmaster.specs.Gm.{KeptGm, StandsFor}
+use Rattle.ptu_grandmaster.specs.Gm.{KeptGm, StandsFor, five_ports}
 use Rattle.ptu_lanes.specs.{Sending.{GoesOn, WasSent}, Served.{faults_of}}
 use Rattle.ptu_config.specs.{declared.settings.GmSettings.{GmSettings}, Rounds.{all_rounds}}
 use Rattle.ptu_outside.specs.Ports.{HaveNotRisen, HaveRisenBy, HaveRisenJust, WereSent, ports_of, senders_of}
@@ -21,7 +21,7 @@ use Rattle.ptu_outside.specs.declared.tally.Tally.{Tally}
 use Rattle.ptu_daemon.specs.Commands.{AreCounted, AreRoundsOf, DoneRound, IsSpoken, WasHandedAt, answers_from, done_events, happens_from, round_of, rounds_done, rounds_of, served_events, spoken_of, waits_at}
 use Rattle.ptu_daemon.specs.Events.{Given, Happening, Takes, config_of}
 use Rattle.ptu_daemon.specs.Obeying.{DidAll, DidRounds, HandledAt}
-use Rattle.ptu_daemon.specs.Ran.{AllHandled, Handled, five, standing_as}
+use Rattle.ptu_daemon.specs.Ran.{AllHandled, Handled, standing_as}
 use Rattle.ptu_daemon.specs.Sends.{after_all, sends_by}
 use Rattle.ptu_daemon.specs.Served.{Said, opened_as, served_by, served_history, served_said}
 use Rattle.ptu_daemon.specs.Serving.{AreServed, AreUnspoken, Happened, IsGiven, Serves, many_by}
@@ -114,8 +114,8 @@ module _ {P C : Type 0} (ports : Ports P) (clocks : Clocks C) where
     pub tells4 : GoesOn ports old.reply new.reply (sends 4)
     pub many : sent ≡ length (sends 0) + length (sends 1) + length (sends 2) + length (sends 3) + length (sends 4)
 
-  sent_by_five : (sends : ℕ → List Departure) (s f m : ℕ) (old new : KeptGm P) (a b : P) → AllHandled ports sends 0 s f m (five old) (five new) →
-      HaveNotRisen (map ports.faults (five old ++ a ∷ [])) (map ports.faults (five new ++ b ∷ [])) → SentByFive sends old new s
+  sent_by_five : (sends : ℕ → List Departure) (s f m : ℕ) (old new : KeptGm P) (a b : P) → AllHandled ports sends 0 s f m (five_ports old) (five_ports new) →
+      HaveNotRisen (map ports.faults (five_ports old ++ a ∷ [])) (map ports.faults (five_ports new ++ b ∷ [])) → SentByFive sends old new s
   sent_by_five sends s f m old new a b (
     s0,
     f0,
@@ -202,57 +202,57 @@ module _ {P C : Type 0} (ports : Ports P) (clocks : Clocks C) where
     gm_is : standing_as gm0 settings.capacity [] ≡ opened_as settings
     gm_is = ap (λ c. record { config = c; opening = settings.capacity; past = [] }) config
 
-    handled : AllHandled ports (λ i. sends_by (standing_as gm0 settings.capacity []) i did.ran.events) 0 tally.sent did.ran.others_failed did.ran.others_missed (five gm0) (five gm1)
+    handled : AllHandled ports (λ i. sends_by (standing_as gm0 settings.capacity []) i did.ran.events) 0 tally.sent did.ran.others_failed did.ran.others_missed (five_ports gm0) (five_ports gm1)
     handled = (did.ran.does settings.capacity [] stood).1
 
-    opened_are : five gm0 ++ opened.p5 ∷ [] ≡ ports_of opened
+    opened_are : five_ports gm0 ++ opened.p5 ∷ [] ≡ ports_of opened
     opened_are = cc
 
-    closed_are : five gm1 ++ event ∷ [] ≡ ports_of closed
+    closed_are : five_ports gm1 ++ event ∷ [] ≡ ports_of closed
     closed_are = cc
 
-    senders_opened : five gm0 ≡ senders_of opened
+    senders_opened : five_ports gm0 ≡ senders_of opened
     senders_opened = cc
 
-    senders_closed : five gm1 ≡ senders_of closed
+    senders_closed : five_ports gm1 ≡ senders_of closed
     senders_closed = cc
 
     risen : HaveRisenBy said.failed (faults_of ports opened) (faults_of ports closed)
     risen =
         subst (λ (l : List P). HaveRisenBy said.failed (map ports.faults l) (faults_of ports closed)) opened_are
-        (subst (λ (l : List P). HaveRisenBy said.failed (map ports.faults (five gm0 ++ opened.p5 ∷ [])) (map ports.faults l)) closed_are
-        (subst (λ n. HaveRisenBy n (map ports.faults (five gm0 ++ opened.p5 ∷ [])) (map ports.faults (five gm1 ++ event ∷ []))) (sym (failed_is ∙ did.ran.failures))
-        (risen_of (λ i. sends_by (standing_as gm0 settings.capacity []) i did.ran.events) 0 tally.sent did.ran.others_failed did.ran.others_missed did.ran.event_failed (five gm0) (five gm1) opened.p5 event handled did.ran.event_handled.risen)))
+        (subst (λ (l : List P). HaveRisenBy said.failed (map ports.faults (five_ports gm0 ++ opened.p5 ∷ [])) (map ports.faults l)) closed_are
+        (subst (λ n. HaveRisenBy n (map ports.faults (five_ports gm0 ++ opened.p5 ∷ [])) (map ports.faults (five_ports gm1 ++ event ∷ []))) (sym (failed_is ∙ did.ran.failures))
+        (risen_of (λ i. sends_by (standing_as gm0 settings.capacity []) i did.ran.events) 0 tally.sent did.ran.others_failed did.ran.others_missed did.ran.event_failed (five_ports gm0) (five_ports gm1) opened.p5 event handled did.ran.event_handled.risen)))
 
     just : ports.counts_once ≡ true → HaveRisenJust said.failed (faults_of ports opened) (faults_of ports closed)
     just once =
         subst (λ (l : List P). HaveRisenJust said.failed (map ports.faults l) (faults_of ports closed)) opened_are
-        (subst (λ (l : List P). HaveRisenJust said.failed (map ports.faults (five gm0 ++ opened.p5 ∷ [])) (map ports.faults l)) closed_are
-        (subst (λ n. HaveRisenJust n (map ports.faults (five gm0 ++ opened.p5 ∷ [])) (map ports.faults (five gm1 ++ event ∷ []))) (sym (failed_is ∙ did.ran.failures))
-        (just_of (λ i. sends_by (standing_as gm0 settings.capacity []) i did.ran.events) 0 tally.sent did.ran.others_failed did.ran.others_missed did.ran.event_failed (five gm0) (five gm1) opened.p5 event once handled
+        (subst (λ (l : List P). HaveRisenJust said.failed (map ports.faults (five_ports gm0 ++ opened.p5 ∷ [])) (map ports.faults l)) closed_are
+        (subst (λ n. HaveRisenJust n (map ports.faults (five_ports gm0 ++ opened.p5 ∷ [])) (map ports.faults (five_ports gm1 ++ event ∷ []))) (sym (failed_is ∙ did.ran.failures))
+        (just_of (λ i. sends_by (standing_as gm0 settings.capacity []) i did.ran.events) 0 tally.sent did.ran.others_failed did.ran.others_missed did.ran.event_failed (five_ports gm0) (five_ports gm1) opened.p5 event once handled
         (did.ran.event_handled.just once))))
 
     quiet : said.failed ≡ 0 → faults_of ports closed ≡ faults_of ports opened
     quiet none =
         ap (map ports.faults) (sym closed_are)
-        ∙ quiet_of (λ i. sends_by (standing_as gm0 settings.capacity []) i did.ran.events) 0 tally.sent did.ran.others_failed did.ran.others_missed did.ran.event_failed (five gm0) (five gm1) opened.p5 event handled
+        ∙ quiet_of (λ i. sends_by (standing_as gm0 settings.capacity []) i did.ran.events) 0 tally.sent did.ran.others_failed did.ran.others_missed did.ran.event_failed (five_ports gm0) (five_ports gm1) opened.p5 event handled
         did.ran.event_handled.quiet (sym (failed_is ∙ did.ran.failures) ∙ none)
         ∙ ap (map ports.faults) opened_are
 
     were_sent : WereSent said.sent (map ports.sent (senders_of opened)) (map ports.sent (senders_of closed))
     were_sent =
         subst (λ (l : List P). WereSent said.sent (map ports.sent l) (map ports.sent (senders_of closed))) senders_opened
-        (subst (λ (l : List P). WereSent said.sent (map ports.sent (five gm0)) (map ports.sent l)) senders_closed
-        (subst (λ n. WereSent n (map ports.sent (five gm0)) (map ports.sent (five gm1))) (sym sent_is)
-        (sent_of (λ i. sends_by (standing_as gm0 settings.capacity []) i did.ran.events) 0 tally.sent did.ran.others_failed did.ran.others_missed (five gm0) (five gm1) handled)))
+        (subst (λ (l : List P). WereSent said.sent (map ports.sent (five_ports gm0)) (map ports.sent l)) senders_closed
+        (subst (λ n. WereSent n (map ports.sent (five_ports gm0)) (map ports.sent (five_ports gm1))) (sym sent_is)
+        (sent_of (λ i. sends_by (standing_as gm0 settings.capacity []) i did.ran.events) 0 tally.sent did.ran.others_failed did.ran.others_missed (five_ports gm0) (five_ports gm1) handled)))
 
     were_handed_so : WereHanded ports (λ i. sends_by (opened_as settings) i did.ran.events) 0 said.sent (senders_of opened) (senders_of closed)
     were_handed_so =
         subst (λ (l : List P). WereHanded ports (λ i. sends_by (opened_as settings) i did.ran.events) 0 said.sent l (senders_of closed)) senders_opened
-        (subst (λ (l : List P). WereHanded ports (λ i. sends_by (opened_as settings) i did.ran.events) 0 said.sent (five gm0) l) senders_closed
-        (subst (λ n. WereHanded ports (λ i. sends_by (opened_as settings) i did.ran.events) 0 n (five gm0) (five gm1)) (sym sent_is)
-        (subst (λ g. WereHanded ports (λ i. sends_by g i did.ran.events) 0 tally.sent (five gm0) (five gm1)) gm_is
-        (handed_of (λ i. sends_by (standing_as gm0 settings.capacity []) i did.ran.events) 0 tally.sent did.ran.others_failed did.ran.others_missed (five gm0) (five gm1) handled))))
+        (subst (λ (l : List P). WereHanded ports (λ i. sends_by (opened_as settings) i did.ran.events) 0 said.sent (five_ports gm0) l) senders_closed
+        (subst (λ n. WereHanded ports (λ i. sends_by (opened_as settings) i did.ran.events) 0 n (five_ports gm0) (five_ports gm1)) (sym sent_is)
+        (subst (λ g. WereHanded ports (λ i. sends_by g i did.ran.events) 0 tally.sent (five_ports gm0) (five_ports gm1)) gm_is
+        (handed_of (λ i. sends_by (standing_as gm0 settings.capacity []) i did.ran.events) 0 tally.sent did.ran.others_failed did.ran.others_missed (five_ports gm0) (five_ports gm1) handled))))
 
     were_handed : WereHanded ports (λ i. sends_by (opened_as settings) i (done_events did.done)) 0 said.sent (senders_of opened) (senders_of closed)
     were_handed = subst (λ es. WereHanded ports (λ i. sends_by (opened_as settings) i es) 0 said.sent (senders_of opened) (senders_of closed)) did.events were_handed_so
@@ -357,7 +357,7 @@ module _ {P C : Type 0} (ports : Ports P) (clocks : Clocks C) where
       five_sent : SentByFive (λ i. sends_by (standing_as gm0 settings.capacity []) i did.ran.events) gm0 gm1 tally.sent
       five_sent =
           sent_by_five (λ i. sends_by (standing_as gm0 settings.capacity []) i did.ran.events) tally.sent did.ran.others_failed did.ran.others_missed gm0 gm1 opened.p5 event handled
-          (subst (λ (l : List P). HaveNotRisen (map ports.faults l) (map ports.faults (five gm1 ++ event ∷ []))) (sym opened_are)
+          (subst (λ (l : List P). HaveNotRisen (map ports.faults l) (map ports.faults (five_ports gm1 ++ event ∷ []))) (sym opened_are)
           (subst (λ (l : List P). HaveNotRisen (faults_of ports opened) (map ports.faults l)) (sym closed_are) still))
 
       -- what is so of one of the five for what the events make it send is so for what is served

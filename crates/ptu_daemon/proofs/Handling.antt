@@ -5,8 +5,8 @@ use Rattle.ptu_outside.specs.{declared.port.Port.{Ghosts as Ports}, Departure.{D
 use Rattle.ptu_outside.specs.Faults.{HasNotFallen, HasRisen, HasRisenBy, HasRisenJust}
 use Rattle.ptu_outside.specs.{HandsOver.{HandsOver, SentOf}, Telling.{IfTold, append_told}}
 use Rattle.ptu_outside.proofs.HandsOver.{goes_on_both, just_both, none_failed, not_fallen_both, not_fallen_none, rises_first, rises_second, risen_both, sent_both, sent_none, told_both, told_none}
-use Rattle.ptu_grandmaster.specs.Gm.{KeptGm}
-use Rattle.ptu_daemon.specs.Ran.{AllHandled, Handled, five}
+use Rattle.ptu_grandmaster.specs.Gm.{KeptGm, five_ports}
+use Rattle.ptu_daemon.specs.Ran.{AllHandled, Handled}
 
 -- ---- lengths of what is told
 
@@ -136,7 +136,7 @@ module _ {P : Type 0} (ports : Ports P) where
       Handled ports (sends 2) s2 f2 0 old.s2.port new.s2.port → Handled ports (sends 3) s3 f3 0 old.s3.port new.s3.port →
       Handled ports (sends 4) s4 f4 missed old.reply new.reply →
       sent ≡ s0 + (s1 + (s2 + (s3 + (s4 + 0)))) → failed ≡ f0 + (f1 + (f2 + (f3 + (f4 + 0)))) →
-      AllHandled ports sends 0 sent failed missed (five old) (five new)
+      AllHandled ports sends 0 sent failed missed (five_ports old) (five_ports new)
   five_handled sends old new s0 f0 s1 f1 s2 f2 s3 f3 s4 f4 missed sent failed h0 h1 h2 h3 h4 e e' = (
     s0,
     f0,
@@ -188,7 +188,7 @@ module _ {P : Type 0} (ports : Ports P) where
   )
 
   -- all sends and failures of the five
-  pub five_each : (sends : ℕ → List Departure) (old new : KeptGm P) (sent failed missed : ℕ) → AllHandled ports sends 0 sent failed missed (five old) (five new) →
+  pub five_each : (sends : ℕ → List Departure) (old new : KeptGm P) (sent failed missed : ℕ) → AllHandled ports sends 0 sent failed missed (five_ports old) (five_ports new) →
       sent + failed ≡ length (sends 0) + length (sends 1) + length (sends 2) + length (sends 3) + length (sends 4) + missed
   five_each sends old new sent failed missed (
     s0,

@@ -21,37 +21,12 @@ use Rattle.ptu_grandmaster.specs.Driven.{events_of}
 use Rattle.ptu_config.specs.declared.settings.GmSettings.{GmSettings}
 use Rattle.ptu_world.specs.Deeds.{Grandmaster}
 use Rattle.ptu_world.specs.Promises.{IsDecidedByRoom, IsRun, Request, client, decision, history}
-use Rattle.ptu_world.proofs.Deciding.{is_decided}
+use Rattle.ptu_world.proofs.Deciding.{behind_item, decisions-between, decisions-long, is_decided}
 use Rattle.ptu_daemon.specs.{Events.{config_of}, Lawful.{IsLawful, IsReplied, IsTaken, history_by, served_gm, table_messages, timings}}
 use Rattle.ptu_daemon.specs.{Sends.{Standing, after_all, event_sends, heard_sends, sends_by, standing_after}, Served.{opened_as}}
 use Rattle.ptu_daemon.proofs.{Messages.{events_tell, no_fifth}, Running.{after_all-history, after_is, sends_by-append}}
 
 -- ---- a REQUEST among items
-
-module _ (opened : Config) (t : ℕ) (c : Client) where
-  placed-long : (h : List Record) (list : List Item) → length (placed opened h t c list) ≡ length list
-  unfolding placed
-  placed-long h [] = refl
-  placed-long h (item ∷ list) = let ih = placed-long (h ++ item_records opened h t c item) list in omega (arith, ih)
-
-  decisions-long : (h : List Record) (list : List Item) → length (decisions_of opened h t c list) ≡ length list
-  decisions-long h list = length-map (placed opened h t c list) _ ∙ placed-long h list
-
-  -- what the items behind one come to
-  abbrev behind_item : List Record → List Item → Item → List Item → List Decision
-  behind_item h list item rest =
-      let before = history_after opened h (events_of_items t c list) in
-      decisions_of opened (before ++ item_records opened before t c item) t c rest
-
-  decisions-between : (h : List Record) (list : List Item) (item : Item) (rest : List Item)
-      → decisions_of opened h t c (list ++ item ∷ rest)
-      ≡ decisions_of opened h t c list ++ decision_of opened (history_after opened h (events_of_items t c list)) t c item ∷ behind_item h list item rest
-  unfolding placed history_after
-  decisions-between h [] item rest = refl
-  decisions-between h (i ∷ list) item rest =
-      ap (λ ds. decision_of opened h t c i ∷ ds) (decisions-between (h ++ item_records opened h t c i) list item rest
-      ∙ ap (λ b. decisions_of opened (h ++ item_records opened h t c i) t c list ++ decision_of opened b t c item ∷ decisions_of opened (b ++ item_records opened b t c item) t c rest)
-      (sym (history_after-items opened t h c i list)))
 
 -- where there is an item there is a reply
 reply_sent : (gm : Standing) (t from : ℕ) (header : Header) (list : List Item) (item : Item) (rest : List Item)
@@ -82,7 +57,9 @@ module _ (settings : GmSettings) where
     first = decisions_of opened r.gm.past r.handed.at (client r) r.before
 
     abbrev others : List Decision
-    others = behind_item opened r.handed.at (client r) r.gm.past r.before (items.Request r.ask) r.behind
+    others =
+        map (λ p. decision_of opened p.0 r.handed.at (client r) p.1)
+        (behind_item opened r.handed.at (client r) r.gm.past r.before (items.Request r.ask) r.behind)
 
     abbrev own : Decision
     own = decision_of opened (history r) r.handed.at (client r) (items.Request r.ask)

@@ -28,7 +28,7 @@ use Rattle.ptu_grandmaster.specs.declared.driving.GmEvent.{GmEvent}
 use Rattle.ptu_grandmaster.specs.declared.driving.GmEvent.TheVariants.{Take, Turn, Class, Capacity as Change}
 use Rattle.ptu_world.specs.Deeds.{Grandmaster}
 use Rattle.ptu_world.specs.Promises.{Timing, message_in, messages_in, timing_to}
-use Rattle.ptu_world.proofs.Messages.{heard_told, turn_told}
+use Rattle.ptu_world.proofs.Messages.{append-option, heard_told, turn_told, messages_in-append}
 use Rattle.ptu_daemon.specs.{Lawful.{table_message, table_messages, timings}}
 use Rattle.ptu_daemon.specs.Sends.{Standing, after_all, by, event_sends, heard_sends, sends_by, standing_after}
 
@@ -37,10 +37,6 @@ use Rattle.ptu_daemon.specs.Sends.{Standing, after_all, by, event_sends, heard_s
 append-cancel : (xs ys zs : List Timing) → xs ++ ys ≡ xs ++ zs → ys ≡ zs
 append-cancel [] ys zs e = e
 append-cancel (x ∷ xs) ys zs e = let rest : xs ++ ys ≡ xs ++ zs = cc in append-cancel xs ys zs rest
-
-cons-append : (o : Option Timing) (xs ys : List Timing) → cons_option o (xs ++ ys) ≡ cons_option o xs ++ ys
-cons-append None xs ys = refl
-cons-append (Some t) xs ys = refl
 
 nothing_if : (b : Bool) → ◌≡◌ {A = List Timing} [] (if b then [] else [])
 nothing_if true = refl
@@ -60,12 +56,6 @@ timings_none false sends none = refl
 
 -- ---- the messages of more records
 
-whole-append : (epoch : ℕ) (before xs ys : List Record) → messages_in epoch before (xs ++ ys) ≡ messages_in epoch before xs ++ messages_in epoch (before ++ xs) ys
-whole-append epoch before [] ys = ap (λ h. messages_in epoch h ys) (sym (append-nil before))
-whole-append epoch before (x ∷ xs) ys =
-    ap (cons_option (message_in epoch before x)) (whole-append epoch (before ++ x ∷ []) xs ys ∙ ap (λ h. messages_in epoch (before ++ x ∷ []) xs ++ messages_in epoch h ys) (append_assoc before (x ∷ []) xs))
-    ∙ cons-append (message_in epoch before x) (messages_in epoch (before ++ x ∷ []) xs) (messages_in epoch (before ++ x ∷ xs) ys)
-
 -- the records are of messages to the clients of the table, or of none
 abbrev IsOf : ℕ → Record → Type 0
 IsOf j (Sent x c k) = table_of c ≡ j
@@ -76,7 +66,7 @@ module _ (i epoch : ℕ) where
   table-append before [] ys = ap (λ h. table_messages i epoch h ys) (sym (append-nil before))
   table-append before (x ∷ xs) ys =
       ap (cons_option (table_message i epoch before x)) (table-append (before ++ x ∷ []) xs ys ∙ ap (λ h. table_messages i epoch (before ++ x ∷ []) xs ++ table_messages i epoch h ys) (append_assoc before (x ∷ []) xs))
-      ∙ cons-append (table_message i epoch before x) (table_messages i epoch (before ++ x ∷ []) xs) (table_messages i epoch (before ++ x ∷ xs) ys)
+      ∙ append-option (table_message i epoch before x) (table_messages i epoch (before ++ x ∷ []) xs) (table_messages i epoch (before ++ x ∷ xs) ys)
 
   -- records of one table: all of their messages, or none
   of_table : (j : ℕ) (before xs : List Record) → AllByRecursion (IsOf j) xs → table_messages i epoch before xs ≡ (if i == j then messages_in epoch before xs else [])
@@ -168,7 +158,7 @@ module _ (gm : Standing) (i : ℕ) where
       let all : AllByRecursion (IsOf j) records = (tt, due_of x j (due_grants gm.past x j) (due_grants-table gm.past x j)) in
       more i gm.config.epoch j gm.past records _ all
       (append-cancel (messages_in gm.config.epoch [] gm.past) (messages_in gm.config.epoch gm.past records) _
-      (sym (whole-append gm.config.epoch [] gm.past records) ∙ turn_told (as_of_script gm) t j))
+      (sym (messages_in-append gm.config.epoch [] gm.past records) ∙ turn_told (as_of_script gm) t j))
 
   heard_tells : (t from : ℕ) (what : Result Heard GmReason)
       → Tells (history_after (opened_with gm.opening gm.config) gm.past (events_heard t from what)) (heard_sends gm i t from what)
@@ -181,7 +171,7 @@ module _ (gm : Standing) (i : ℕ) where
       let all : AllByRecursion (IsOf (table_of c)) records = (tt, answer_of x c (delay_answer gm.past x c)) in
       more i gm.config.epoch (table_of c) gm.past records _ all
       (append-cancel (messages_in gm.config.epoch [] gm.past) (messages_in gm.config.epoch gm.past records) _
-      (sym (whole-append gm.config.epoch [] gm.past records) ∙ heard_told (as_of_script gm) t from (Ok (heard.DelayReq header))))
+      (sym (messages_in-append gm.config.epoch [] gm.past records) ∙ heard_told (as_of_script gm) t from (Ok (heard.DelayReq header))))
   heard_tells t from (Ok (heard.Asks header [])) = same_tells
   heard_tells t from (Ok (heard.Asks header (item ∷ list))) =
       items_none i gm.config.epoch (opened_with gm.opening gm.config) gm.past t (client_of from header) (item ∷ list)

@@ -7,7 +7,7 @@ use Rattle.ptu_outside.proofs.HandsOver.{not_fallen_both, not_fallen_none, rises
 use Rattle.ptu_history.specs.{Core.{history_after}, History.{Record}}
 use Rattle.ptu_grandmaster.specs.declared.status.GmStatus.{GmStatus}
 use Rattle.ptu_grandmaster.specs.declared.driving.{GmEvent.{GmEvent}, GmEvent.TheVariants.{Capacity, Class}}
-use Rattle.ptu_grandmaster.specs.{Gm.{KeptGm, StandsFor}, Status.{IsGmStatusOf}}
+use Rattle.ptu_grandmaster.specs.{Gm.{KeptGm, StandsFor, five_ports}, Status.{IsGmStatusOf}}
 use Rattle.ptu_config.specs.Commands.{order_asked, is_stop_order}
 use Rattle.ptu_config.specs.declared.{answer.Reply.{Reply}, answer.Status.{Status}, command.Cause.{Cause}, command.Command.{Command}}
 use Rattle.ptu_config.specs.declared.answer.Reply.TheVariants.{Done, Shed, Stands, Bad}
@@ -19,7 +19,7 @@ use Rattle.ptu_daemon.specs.declared.{daemon.Daemon.{Daemon}, obeying.Obeyed.{Ob
 use Rattle.ptu_lanes.specs.{Heard.{TookOrder, TookSpoken, WasAnswered, answer_sent}, Orders.{listed, order_with}}
 use Rattle.ptu_daemon.specs.Commands.{order_answers, ended_by, faults_at, happens_by, command_reply, standing_status, waits_at}
 use Rattle.ptu_daemon.specs.Obeying.{Executed, Follows, HandledAt, Obeys, situation_at}
-use Rattle.ptu_daemon.specs.Ran.{Does, Handled, IsSmall, Ran, Receives, arrived, five, standing_as}
+use Rattle.ptu_daemon.specs.Ran.{Does, Handled, IsSmall, Ran, Receives, arrived, standing_as}
 use Rattle.ptu_daemon.specs.Sends.{Standing, sends_by}
 use Rattle.ptu_daemon.proofs.Handling.{five_each, five_handled, handled_more, handled_same, hands_handled}
 use Rattle.ptu_daemon.proofs.Receiving.{gives_kept, gives_one, left_none, receive_handled}

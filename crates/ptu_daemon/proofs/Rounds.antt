@@ -7,7 +7,7 @@ use Rattle.ptu_outside.specs.declared.channel.Channel.TheVariants as channels
 use Rattle.ptu_outside.specs.declared.{clock.Clock.{Ghosts as Clocks}, port.Port.{Ghosts as Ports}}
 use Rattle.ptu_outside.proofs.HandsOver.{not_fallen_both, not_fallen_none, rises_first, rises_second}
 use Rattle.ptu_history.specs.History.{Record}
-use Rattle.ptu_grandmaster.specs.Gm.{StandsFor}
+use Rattle.ptu_grandmaster.specs.Gm.{StandsFor, five_ports}
 use Rattle.ptu_config.specs.{declared.settings.GmSettings.{GmSettings}, Rounds.{all_rounds}}
 use Rattle.ptu_outside.specs.{Rounds.{in_rounds, left_after, taken_in}, Taken.{Gave, HaveTaken, event_of, general_of}}
 use Rattle.ptu_outside.proofs.Taken.{event_of-push, general_of-push, have_taken-none, have_taken-push}
@@ -17,7 +17,7 @@ use Rattle.ptu_lanes.specs.Orders.{listed, order_in}
 use Rattle.ptu_daemon.specs.Commands.{AreAll, AreCounted, AreRoundsOf, AreSpoken, DoneRound, order_answers, answers_from, done_events, faults_at, happens_by, happens_from, is_last, many_from, round_of, rounds_of, spoken_of, waits_at}
 use Rattle.ptu_daemon.specs.Events.{Given, change_in, round_given, round_with, taking, turns}
 use Rattle.ptu_daemon.specs.Obeying.{DidAll, DidRounds, DidWhole, HandledAt, Waits}
-use Rattle.ptu_daemon.specs.{Ran.{DidRound, IsSmall, Ran, TookChannel, five, standing_as}, Sends.{Standing, after_all, sends_by}}
+use Rattle.ptu_daemon.specs.{Ran.{DidRound, IsSmall, Ran, TookChannel, standing_as}, Sends.{Standing, after_all, sends_by}}
 use Rattle.ptu_lanes.proofs.OrderedRounds.{NoneEnds, last_ends, none_ended, none_ends-push}
 use Rattle.ptu_daemon.proofs.Commands.{answers_from-push, are_counted-push, are_rounds-push, are_spoken-push, events_of-push, happens_from-push, have_happened-push, many_done, many_from-append, rounds_of-push, spoken_of-push, within-push}
 use Rattle.ptu_daemon.proofs.Handling.{all_within, five_each, handled_more, handled_same}
@@ -285,7 +285,7 @@ module _ {P C : Type 0} (ports : Ports P) (clocks : Clocks C) where
           so_far.receives,
           so_far.event_handled.within,
           all_within ports (λ i. sends_by gm i so_far.events) 0 (tally.sent + k.round.sent) so_far.others_failed so_far.others_missed
-              (five old.gm) (five k.turned.gm) (so_far.does opening past stood).1,
+              (five_ports old.gm) (five_ports k.turned.gm) (so_far.does opening past stood).1,
         );
         each = each;
       })

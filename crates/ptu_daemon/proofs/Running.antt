@@ -10,12 +10,13 @@ use Rattle.ptu_history.proofs.Histories.{history_after-append}
 use Rattle.ptu_profile.specs.declared.grandmaster.GmConfig.{GmConfig}
 use Rattle.ptu_gm_messages.specs.{Deciding.{events_heard, opened_with}, Items.{heard_in}}
 use Rattle.ptu_grandmaster.specs.declared.driving.GmEvent.TheVariants.{Take, Turn, Class, Capacity}
-use Rattle.ptu_grandmaster.specs.{declared.driving.GmEvent.{GmEvent}, Driven.{events_of}, Gm.{StandsFor}}
+use Rattle.ptu_grandmaster.specs.{declared.driving.GmEvent.{GmEvent}, Driven.{events_of}, Gm.{StandsFor, five_ports}}
+use Rattle.ptu_grandmaster.proofs.Followed.{heard_in-class}
 use Rattle.ptu_outside.specs.Rounds.{moments_after, next_of, timed}
 use Rattle.ptu_outside.specs.Taken.{Gave, HappenedAt}
 use Rattle.ptu_outside.proofs.Taken.{happened-append}
 use Rattle.ptu_daemon.specs.{declared.daemon.Daemon.{Daemon}, Events.{Happening, Takes}}
-use Rattle.ptu_daemon.specs.Ran.{AllHandled, Does, Handled, Ran, five, standing_as}
+use Rattle.ptu_daemon.specs.Ran.{AllHandled, Does, Handled, Ran, standing_as}
 use Rattle.ptu_daemon.specs.Sends.{Standing, after_all, class_after, class_by, config_after, event_sends, sends_by, standing_after}
 use Rattle.ptu_daemon.proofs.Handling.{all_more, all_same, five_handled, handled_more, handled_same}
 use Rattle.ptu_lanes.proofs.Moments.{moments_add}
@@ -93,13 +94,8 @@ pub class_more : (class : ℕ) (xs ys : List GmEvent) → class_after class (xs 
 class_more class [] ys = refl
 class_more class (x ∷ xs) ys = class_more (class_by class x) xs ys
 
--- an event does not know the class
-heard_class : (config : GmConfig) (class : ℕ) (octets : List ℕ) → heard_in (record config { class = class }) octets ≡ heard_in config octets
-unfolding heard_in
-heard_class config class octets = refl
-
 pub events_class : (config : GmConfig) (class : ℕ) (event : GmEvent) → events_of (record config { class = class }) event ≡ events_of config event
-events_class config class (Take t from octets) = ap (events_heard t from) (heard_class config class octets)
+events_class config class (Take t from octets) = ap (events_heard t from) (heard_in-class config class octets)
 events_class config class (Turn t table) = refl
 events_class config class (Class new) = refl
 events_class config class (Capacity t capacity) = refl
@@ -190,7 +186,7 @@ module _ {P C : Type 0} (ports : Ports P) (clocks : Clocks C) where
     receives = omega arith;
     does = λ opening past stood. (
       (h.does opening past stood).0,
-      all_same ports (λ i. event_sends (standing_as old.gm opening past) i (happens t)) _ 0 sent failed 0 (five old.gm) (five new.gm)
+      all_same ports (λ i. event_sends (standing_as old.gm opening past) i (happens t)) _ 0 sent failed 0 (five_ports old.gm) (five_ports new.gm)
           (λ i. append-nil (event_sends (standing_as old.gm opening past) i (happens t))) (h.does opening past stood).1,
     );
   }
@@ -219,7 +215,7 @@ module _ {P C : Type 0} (ports : Ports P) (clocks : Clocks C) where
     where
       both : (opening : ℕ) (past : List Record) → StandsFor opening old.gm past →
           StandsFor opening new.gm ((after_all (standing_as old.gm opening past) (h.events ++ k.events)).past)
-          × AllHandled ports (λ i. sends_by (standing_as old.gm opening past) i (h.events ++ k.events)) 0 (s + s') (h.others_failed + k.others_failed) (h.others_missed + k.others_missed) (five old.gm) (five new.gm)
+          × AllHandled ports (λ i. sends_by (standing_as old.gm opening past) i (h.events ++ k.events)) 0 (s + s') (h.others_failed + k.others_failed) (h.others_missed + k.others_missed) (five_ports old.gm) (five_ports new.gm)
       both opening past stood =
           let gm : Standing = standing_as old.gm opening past in
           let one = h.does opening past stood in
@@ -229,7 +225,7 @@ module _ {P C : Type 0} (ports : Ports P) (clocks : Clocks C) where
             subst (λ (after : Standing). StandsFor opening new.gm after.past)
                 (ap (λ g. after_all g k.events) is ∙ sym (after_all-append gm h.events k.events)) two.0,
             all_more ports (λ i. sends_by gm i h.events) (λ i. sends_by (standing_as now.gm opening ((after_all gm h.events).past)) i k.events)
-                (λ i. sends_by gm i (h.events ++ k.events)) 0 s h.others_failed h.others_missed s' k.others_failed k.others_missed (five old.gm) (five now.gm) (five new.gm)
+                (λ i. sends_by gm i (h.events ++ k.events)) 0 s h.others_failed h.others_missed s' k.others_failed k.others_missed (five_ports old.gm) (five_ports now.gm) (five_ports new.gm)
                 (λ i. sends_by-append gm i h.events k.events ∙ ap (λ g. sends_by gm i h.events ++ sends_by g i k.events) (sym is)) one.1 two.1,
           )
 

@@ -19,12 +19,12 @@ use Rattle.ptu_outside.specs.declared.reply.Reply.{Reply}
 use Rattle.ptu_outside.specs.declared.reply.Reply.TheVariants as replies
 use Rattle.ptu_grandmaster.specs.declared.outcome.Taken.{Taken}
 use Rattle.ptu_grandmaster.specs.declared.outcome.Taken.TheVariants.{Ignored, Delay, Asked}
-use Rattle.ptu_grandmaster.specs.Gm.{KeptGm, StandsFor, table_at, with_table}
+use Rattle.ptu_grandmaster.specs.Gm.{KeptGm, StandsFor, five_ports, table_at, with_table}
 use Rattle.ptu_grandmaster.specs.Outcomes.{answers_seen, decisions_seen}
 use Rattle.ptu_grandmaster.specs.Taking.{ComesTo, IsAnswerTo, OnAsked, OnDelay, OnIgnored, Replies, Responds}
 use Rattle.ptu_outside.specs.Replies.{reply_failed, reply_sent}
 use Rattle.ptu_daemon.specs.Counting.{failed_for, sent_for}
-use Rattle.ptu_daemon.specs.Ran.{AllHandled, Does, Handled, five, standing_as}
+use Rattle.ptu_daemon.specs.Ran.{AllHandled, Does, Handled, standing_as}
 use Rattle.ptu_daemon.specs.Sends.{by, heard_sends}
 use Rattle.ptu_daemon.proofs.Changing.{reply_handled}
 use Rattle.ptu_daemon.proofs.Handling.{all_same, five_handled, handled_same, hands_handled}
@@ -55,9 +55,9 @@ module _ {P : Type 0} (ports : Ports P) where
 
   -- ---- what was heard
 
-  all_same_port : (old new : KeptGm P) (sends : ℕ → List Departure) → ((i : ℕ) → sends i ≡ []) → new ≡ old → AllHandled ports sends 0 0 0 0 (five old) (five new)
+  all_same_port : (old new : KeptGm P) (sends : ℕ → List Departure) → ((i : ℕ) → sends i ≡ []) → new ≡ old → AllHandled ports sends 0 0 0 0 (five_ports old) (five_ports new)
   all_same_port old new sends none same =
-      all_same ports (λ i. []) sends 0 0 0 0 (five old) (five new) none
+      all_same ports (λ i. []) sends 0 0 0 0 (five_ports old) (five_ports new) none
       (five_handled ports (λ i. []) old new 0 0 0 0 0 0 0 0 0 0 0 0 0
       (handled_same ports _ _ (ap (λ g. g.s0.port) same)) (handled_same ports _ _ (ap (λ g. g.s1.port) same)) (handled_same ports _ _ (ap (λ g. g.s2.port) same))
       (handled_same ports _ _ (ap (λ g. g.s3.port) same)) (handled_same ports _ _ (ap (λ g. g.reply) same)) (omega arith) (omega arith))
@@ -65,7 +65,7 @@ module _ {P : Type 0} (ports : Ports P) where
   module _ (old new : KeptGm P) (t from : ℕ) (opening : ℕ) (past : List Record) where
     abbrev SendsFor : Result Heard GmReason → Taken → Type 0
     SendsFor what taken =
-        AllHandled ports (λ i. heard_sends (standing_as old opening past) i t from what) 0 (sent_for taken) (failed_for taken) 0 (five old) (five new)
+        AllHandled ports (λ i. heard_sends (standing_as old opening past) i t from what) 0 (sent_for taken) (failed_for taken) 0 (five_ports old) (five_ports new)
 
     delay_sends : (header : Header) (answered : Answered) →
         (let c = client_of from header in let j = table_of c in
@@ -75,7 +75,7 @@ module _ {P : Type 0} (ports : Ports P) where
         SendsFor (Ok (heard.DelayReq header)) (Delay answered)
     delay_sends header answered (responds, rest) (moment, met) =
         all_same ports (λ i. by i (table_of (client_of from header)) (responses (met_by answered) (response_of old.config (moment_of_answer answered) (client_of from header) header))) _ 0
-        (sent_by answered) (failed_by answered) 0 (five old) (five new)
+        (sent_by answered) (failed_by answered) 0 (five_ports old) (five_ports new)
         (λ i. ap₂ (λ a x. by i (table_of (client_of from header)) (responses a (response_of old.config x (client_of from header) header))) (sym met) (sym moment))
         (table_handled ports (table_of (client_of from header)) old new _ (sent_by answered) (failed_by answered)
         (table_below (header.source.clock % 256 + header.source.port)) rest
@@ -89,14 +89,14 @@ module _ {P : Type 0} (ports : Ports P) where
         decisions_seen outcomes ≡ decisions_of (opened_with opening old.config) past t (client_of from header) items →
         SendsFor (Ok (heard.Asks header items)) (Asked outcomes reply)
     asked_sends header [] outcomes reply answers h same comes =
-        all_same ports (λ i. by i 4 []) _ 0 (reply_sent reply) (reply_failed reply) 0 (five old) (five new) (λ i. none i)
+        all_same ports (λ i. by i 4 []) _ 0 (reply_sent reply) (reply_failed reply) 0 (five_ports old) (five_ports new) (λ i. none i)
         (reply_handled ports old new [] (reply_sent reply) (reply_failed reply) same
         (reply_of reply old.reply new.reply _ [] h (λ e. refl) (λ some. absurd (some (answers.1 refl)))))
       where
         none : (i : ℕ) → [] ≡ by i 4 []
         none i = either_same (i == 4) []
     asked_sends header (item ∷ items) outcomes reply answers h same comes =
-        all_same ports (λ i. by i 4 (reply_to old.config from header (answers_seen outcomes) ∷ [])) _ 0 (reply_sent reply) (reply_failed reply) 0 (five old) (five new)
+        all_same ports (λ i. by i 4 (reply_to old.config from header (answers_seen outcomes) ∷ [])) _ 0 (reply_sent reply) (reply_failed reply) 0 (five_ports old) (five_ports new)
         (λ i. ap (λ ds. by i 4 (reply_to old.config from header (map answer_to ds) ∷ [])) (sym comes))
         (reply_handled ports old new _ (reply_sent reply) (reply_failed reply) same
         (reply_of reply old.reply new.reply _ _ h (λ e. absurd (cons_nil (answers.0 e))) (λ some. refl)))

@@ -9,15 +9,15 @@ use Rattle.ptu_history.specs.{History.{Record}, Live.{Grant}, Turns.{due_grants,
 use Rattle.ptu_shard.specs.{Messages.{departure_of}, Turn.{due_messages}}
 use Rattle.ptu_gm_messages.specs.Deciding.{opened_with}
 use Rattle.ptu_grandmaster.specs.declared.driving.GmEvent.TheVariants.{Turn}
-use Rattle.ptu_grandmaster.specs.Gm.{KeptGm, StandsFor, table_at, with_table}
-use Rattle.ptu_daemon.specs.{Ran.{AllHandled, Does, Handled, five}, Sends.{by}}
+use Rattle.ptu_grandmaster.specs.Gm.{KeptGm, StandsFor, five_ports, table_at, with_table}
+use Rattle.ptu_daemon.specs.{Ran.{AllHandled, Does, Handled}, Sends.{by}}
 use Rattle.ptu_daemon.proofs.Handling.{all_same, five_handled, handled_same, hands_handled}
 
 module _ {P : Type 0} (ports : Ports P) where
   -- of a grandmaster one table has changed
   pub table_handled : (j : ℕ) (old new : KeptGm P) (sends : List Departure) (sent failed : ℕ) → j < 4 → new ≡ with_table j (table_at j new) old →
       Handled ports sends sent failed 0 (table_at j old).port (table_at j new).port →
-      AllHandled ports (λ i. by i j sends) 0 sent failed 0 (five old) (five new)
+      AllHandled ports (λ i. by i j sends) 0 sent failed 0 (five_ports old) (five_ports new)
   table_handled zero old new sends sent failed below rest h =
       five_handled ports (λ i. by i 0 sends) old new sent failed 0 0 0 0 0 0 0 0 0 sent failed h
       (handled_same ports _ _ (ap (λ g. g.s1.port) rest)) (handled_same ports _ _ (ap (λ g. g.s2.port) rest)) (handled_same ports _ _ (ap (λ g. g.s3.port) rest))
@@ -59,7 +59,7 @@ module _ {P : Type 0} (ports : Ports P) where
     waiting = ap ports.waiting (table_beside j old new below rest).1;
     does = λ opening past stood. (
       stands opening past stood,
-      all_same ports (λ i. by i j (map (departure_of old.config at) (due_messages at (table_at j old).rows))) _ 0 sent failed 0 (five old) (five new)
+      all_same ports (λ i. by i j (map (departure_of old.config at) (due_messages at (table_at j old).rows))) _ 0 sent failed 0 (five_ports old) (five_ports new)
           (λ i. ap (by i j) (sym (are opening past stood)))
           (table_handled j old new _ sent failed below rest (hands_handled ports _ _ _ sent failed sends)),
     );

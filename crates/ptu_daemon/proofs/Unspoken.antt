@@ -9,7 +9,7 @@ use Rattle.ptu_grandmaster.specs.declared.driving.GmEvent.{GmEvent}
 use Rattle.ptu_lanes.specs.Orders.{listed, order_in}
 use Rattle.ptu_daemon.specs.Commands.{AreAll, AreSpoken, DoneRound, HaveHappened, WasHandedAt, happens_by, rounds_until, spoken_of, waits_at}
 use Rattle.ptu_daemon.specs.Serving.{AreUnspoken}
-use Rattle.ptu_daemon.proofs.Commands.{rounds_are}
+use Rattle.ptu_daemon.proofs.Commands.{rounds_are, until_none}
 
 -- a control port that is not there is not given back
 pub none_back : {P : Type 0} (ports : Ports P) (control' : Option P) (answers : List Departure) → WasHandedAt ports None control' answers → control' ≡ None
@@ -50,13 +50,9 @@ are_unspoken settings before (d ∷ later) (none, rest) (a, b, h) = (
   are_unspoken settings (before + 1) later rest h,
 )
 
-all_until : (settings : GmSettings) (count : ℕ) → rounds_until settings count [] ≡ count
-all_until settings zero = refl
-all_until settings (suc count) = refl
-
 -- each round was done, and none of them took or obeyed anything of a control port
 pub are_alone : (settings : GmSettings) (count : ℕ) (done : List DoneRound) → spoken_of done ≡ [] → HaveHappened settings 0 done → AreAll settings count done →
     (length done ≡ count) × AreUnspoken done
 are_alone settings count done none happened all =
     let spoken = none_spoken done none in
-    (rounds_are settings count done [] all spoken ∙ all_until settings count, are_unspoken settings 0 done spoken happened)
+    (rounds_are settings count done [] all spoken ∙ until_none settings count, are_unspoken settings 0 done spoken happened)

@@ -8,7 +8,7 @@ use Rattle.ptu_outside.specs.Faults.{HasNotFallen, HasRisen, HasRisenBy, HasRise
 use Rattle.ptu_outside.specs.HandsOver.{SentOf}
 use Rattle.ptu_outside.specs.Telling.{IfTold, IsEmptyTold, IsFirstTold, rest_told}
 use Rattle.ptu_history.specs.History.{Record}
-use Rattle.ptu_grandmaster.specs.{declared.driving.GmEvent.{GmEvent}, Gm.{KeptGm, StandsFor}}
+use Rattle.ptu_grandmaster.specs.{declared.driving.GmEvent.{GmEvent}, Gm.{KeptGm, StandsFor, five_ports}}
 use Rattle.ptu_lanes.specs.Sending.{GoesOn, WasSent}
 use Rattle.ptu_config.specs.declared.settings.GmSettings.{GmSettings}
 use Rattle.ptu_outside.specs.Rounds.{most}
@@ -47,10 +47,6 @@ AllHandled ports sends i sent failed missed _ _ = ⊥
 
 -- ---- one event
 
--- the five ports of a grandmaster
-abbrev pub five : {P : Type 0} → KeptGm P → List P
-five gm = gm.s0.port ∷ gm.s1.port ∷ gm.s2.port ∷ gm.s3.port ∷ gm.reply ∷ []
-
 abbrev pub standing_as : {P : Type 0} → KeptGm P → ℕ → List Record → Standing
 standing_as gm opening past = record { config = gm.config; opening = opening; past = past }
 
@@ -61,7 +57,7 @@ pub record Does {P : Type 0} (ports : Ports P) (old new : KeptGm P) (event : GmE
   pub does : (opening : ℕ) (past : List Record) → StandsFor opening old past →
       let gm = standing_as old opening past in
       StandsFor opening new ((standing_after gm event).past)
-      × AllHandled ports (λ i. event_sends gm i event) 0 sent failed 0 (five old) (five new)
+      × AllHandled ports (λ i. event_sends gm i event) 0 sent failed 0 (five_ports old) (five_ports new)
 
 -- ---- several events
 
@@ -85,7 +81,7 @@ pub record Ran {P C : Type 0} (ports : Ports P) (clocks : Clocks C) (old new : D
   pub does : (opening : ℕ) (past : List Record) → StandsFor opening old.gm past →
       let gm = standing_as old.gm opening past in
       StandsFor opening new.gm ((after_all gm events).past)
-      × AllHandled ports (λ i. sends_by gm i events) 0 sent others_failed others_missed (five old.gm) (five new.gm)
+      × AllHandled ports (λ i. sends_by gm i events) 0 sent others_failed others_missed (five_ports old.gm) (five_ports new.gm)
 
 -- ---- parts of a round
 

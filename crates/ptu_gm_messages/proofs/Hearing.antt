@@ -46,7 +46,7 @@ no_memory octets f e same =
     let it : f ≡ faults.OutOfMemory = cc in
     refused_is octets faults.OutOfMemory (e ∙ ap (λ (g : MessageFault). Err g) it)
 
-abbrev IsAsked : List ℕ → Type 0
+abbrev pub IsAsked : List ℕ → Type 0
 IsAsked octets = (n : ℕ) × IsSignaling octets n
 
 by_body : (octets : List ℕ) (header : Header) (b : Body) → SpellsMessage octets (record { header = header; body = b }) → HasTlvs b → IsAsked octets

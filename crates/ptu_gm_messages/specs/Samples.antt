@@ -1,6 +1,5 @@
 -- Datagrams that were made out by hand, field by field, and what the definitions say of them.
 use Rattle.std.specs.Prelude.{◌≡◌, ℕ, List, [], ◌∷◌, ◌++◌, map, take, slice_set, negsuc, pos, Ok, Err}
-use Rattle.ptu_units.specs.declared.client.Client.{Client}
 use Rattle.ptu_units.specs.declared.kind.Kind.TheVariants as kind
 use Rattle.ptu_messages.specs.declared.tlv.Ask.{Ask}
 use Rattle.ptu_messages.specs.declared.tlv.Tlv.TheVariants as tlv
@@ -8,8 +7,10 @@ use Rattle.ptu_messages.specs.declared.header_fault.HeaderFault.TheVariants.{Sho
 use Rattle.ptu_messages.specs.declared.fault.MessageFault.TheVariants.{Header}
 use Rattle.ptu_messages.specs.Samples as messages
 use Rattle.ptu_history.specs.Events as events
+use Rattle.ptu_history.specs.Examples.{first_client, second_client}
 use Rattle.ptu_profile.specs.declared.grandmaster.GmConfig.{GmConfig}
 use Rattle.ptu_messages.specs.Sent.{octets_sent}
+use Rattle.ptu_messages.specs.TlvsSamples.{announce_request}
 use Rattle.ptu_gm_messages.specs.declared.item.Item.TheVariants.{Request, Cancel}
 use Rattle.ptu_gm_messages.specs.declared.reason.GmReason.TheVariants as reason
 use Rattle.ptu_gm_messages.specs.declared.heard.Heard.TheVariants as heard
@@ -26,7 +27,7 @@ sample_ask code log = record { code = code; log = pos log; seconds = 300 }
 
 -- a Signaling to the grandmaster, with a TLV of another type before a REQUEST of Announce at logarithm 1 for 300 s
 abbrev pub request_octets : List ℕ
-request_octets = messages.to_grandmaster 60 (messages.other_octets ++ messages.request_octets)
+request_octets = messages.to_grandmaster 60 (messages.other_octets ++ announce_request)
 
 abbrev pub to_all_ports : List ℕ → List ℕ
 to_all_ports octets = slice_set (slice_set octets 42 0xff) 43 0xff
@@ -52,13 +53,6 @@ DelayReqsAreHeard =
     × (heard_in gm (slice_set messages.delay_req 4 5) ≡ Err (reason.Domain 5))
     × (items_in gm (slice_set messages.delay_req 4 5) ≡ Err (reason.Other 1))
 
--- two clients of the grandmaster
-abbrev pub first : Client
-first = record { ip = 0x0a000111; clock = 0x0a00000000000011; port = 1 }
-
-abbrev pub second_client : Client
-second_client = record { ip = 0x0a000112; clock = 0x0a00000000000012; port = 1 }
-
 -- a Signaling of n octets from the grandmaster to the client with this last octet, with these TLVs
 abbrev pub from_grandmaster : ℕ → ℕ → List ℕ → List ℕ
 from_grandmaster n last values =
@@ -73,12 +67,12 @@ RepliesAreSent =
     × (octets_sent (signaling_of gm messages.sample_client 0 (denial_of (record { code = 0; log = negsuc 6; seconds = 300 }) ∷ []))
     ≡ from_grandmaster 56 0x11 (0 ∷ 5 ∷ 0 ∷ 8 ∷ 0 ∷ 0xf9 ∷ 0 ∷ 0 ∷ 0 ∷ 0 ∷ 0 ∷ 0 ∷ []))
     × ((cancel_to gm second_client kind.Announce 0).bytes ≡ from_grandmaster 50 0x12 (0 ∷ 6 ∷ 0 ∷ 2 ∷ 0xb0 ∷ 0 ∷ []))
-    × (map (λ d. d.ip) (cancels_to gm 65535 ((second_client, kind.Announce) ∷ (first, kind.Sync) ∷ [])) ≡ second_client.ip ∷ first.ip ∷ [])
+    × (map (λ d. d.ip) (cancels_to gm 65535 ((second_client, kind.Announce) ∷ (first_client, kind.Sync) ∷ [])) ≡ second_client.ip ∷ first_client.ip ∷ [])
     × (cancels_to gm 65536 ((second_client, kind.Announce) ∷ []) ≡ cancel_to gm second_client kind.Announce 0 ∷ [])
 
 -- items are decided one after the other, and a CANCEL of a code that is no kind is answered too
 abbrev pub ItemsAreAnswered : Type 0
 ItemsAreAnswered =
-    (map answer_to (decisions_of (opened_with 24 gm) [] 0 first (Request (sample_ask 11 1) ∷ Request (sample_ask 0 0) ∷ Request (sample_ask 9 0) ∷ Cancel 3 ∷ []))
+    (map answer_to (decisions_of (opened_with 24 gm) [] 0 first_client (Request (sample_ask 11 1) ∷ Request (sample_ask 0 0) ∷ Request (sample_ask 9 0) ∷ Cancel 3 ∷ []))
     ≡ grant_of (sample_ask 11 1) 300 ∷ grant_of (sample_ask 0 0) 300 ∷ denial_of (sample_ask 9 0) ∷ tlv.Ack 3 ∷ [])
-    × (events_of_items 7 first (Cancel 11 ∷ Cancel 3 ∷ []) ≡ (7, events.Cancel first kind.Announce) ∷ [])
+    × (events_of_items 7 first_client (Cancel 11 ∷ Cancel 3 ∷ []) ≡ (7, events.Cancel first_client kind.Announce) ∷ [])

@@ -172,7 +172,7 @@ event_within config (Capacity t capacity) timely possible = let most = timely.1.
 
 -- ---- a class changes no event
 
-heard_in-class : (config : GmConfig) (class : ℕ) (octets : List ℕ) → heard_in (record config { class = class }) octets ≡ heard_in config octets
+pub heard_in-class : (config : GmConfig) (class : ℕ) (octets : List ℕ) → heard_in (record config { class = class }) octets ≡ heard_in config octets
 unfolding heard_in
 heard_in-class config class octets = refl
 

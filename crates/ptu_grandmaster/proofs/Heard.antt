@@ -16,7 +16,7 @@ use Rattle.ptu_gm_messages.specs.declared.heard.Heard.{Heard}
 use Rattle.ptu_gm_messages.specs.declared.heard.Heard.TheVariants as heard
 use Rattle.ptu_gm_messages.specs.Items.{heard_by, heard_in, of_message}
 use Rattle.ptu_messages.specs.Message.{HasTlvs}
-use Rattle.ptu_gm_messages.proofs.Hearing.{signaling_alone}
+use Rattle.ptu_gm_messages.proofs.Hearing.{IsAsked, signaling_alone}
 
 pub history_after-none : (opened : Config) (history : List Record) → history_after opened history [] ≡ history
 unfolding history_after
@@ -29,9 +29,6 @@ history_after-one opened history t e = refl
 pub on_err : {A E : Type 0} (r : Result A E) (X : Type 0) → X → OnErr r X
 on_err (Ok a) X x = tt
 on_err (Err e) X x = x
-
-abbrev IsAsked : List ℕ → Type 0
-IsAsked octets = (n : ℕ) × IsSignaling octets n
 
 abbrev pub Found : Type 0
 Found = Result Heard GmReason

@@ -1,5 +1,5 @@
 -- How many grants are live, by the rows of the tables.
-use Rattle.std.proofs.Common.{◌≡◌, ◌∙◌, ◌⊎◌, inl, inr, ℕ, zero, suc, ◌+◌, ◌<◌, ◌≤◌, List, [], ◌∷◌, map, Bool, true, false, not, cond, eqb, ltb, refl, sym, ap, subst, arith}
+use Rattle.std.proofs.Common.{◌≡◌, ◌∙◌, ◌⊎◌, inl, inr, ℕ, zero, suc, ◌+◌, ◌<◌, ◌≤◌, List, [], ◌∷◌, map, Bool, true, false, not, cond, eqb, refl, sym, ap, subst, arith}
 use Rattle.std.specs.{List.{Contains, filter, sum_by}}
 use Rattle.std.proofs.lemmas.List.{Filters.{sum_by-filter_both}, Kept.{AllPairs-filter}, Sums.{sum_by-cons}}
 use Rattle.ptu_units.specs.declared.kind.{Kind.{Kind}, Kind.TheVariants.{Announce, Sync, DelayResp}}
@@ -11,9 +11,10 @@ use Rattle.ptu_history.proofs.{Members.{Differ}, Rates.{rates-tables, table_belo
 use Rattle.ptu_history.proofs.{Standing.{Contains-filter}, Unique.{Apart, Contains-cons_cases, Contains-first, Contains-later}}
 use Rattle.ptu_shard.specs.{declared.lease.Row.{Row}, Row.{IsDistinctByLease, share_of}, Table.{StandsAt}}
 use Rattle.ptu_shard.proofs.RowLists as row_lists
+use Rattle.ptu_shard.proofs.Standing.{is_live_row}
 use Rattle.ptu_admit.specs.{declared.live.Live.{Live}, Lent.{lent_as, moment_for_all}}
 use Rattle.ptu_admit.specs.{LiveRows.{rows_of_kind}, Newest.{grant_of}, Rows.{live_rows}}
-use Rattle.ptu_admit.proofs.Grants.{apart_filter, in_table, is_live_row, live_share, live_there, rows_there}
+use Rattle.ptu_admit.proofs.Grants.{apart_filter, in_table, live_share, live_there, rows_there}
 use Rattle.ptu_admit.proofs.{StepMoments.{moment-all}, Sums.{distinct_grants}}
 use Rattle.ptu_grandmaster.specs.declared.status.GmStatus.{GmStatus}
 use Rattle.ptu_grandmaster.specs.Gm.{KeptGm, StandsFor, tables}

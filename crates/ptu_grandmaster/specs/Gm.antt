@@ -1,5 +1,5 @@
 -- What callers see of a grandmaster, and the histories that it stands for.
-use Rattle.std.specs.{Prelude.{◌≡◌, ℕ, ◌%◌, ◌==◌, if◌then◌else◌, List}, List.Sorted.{IsPermutation}}
+use Rattle.std.specs.{Prelude.{◌≡◌, ℕ, ◌%◌, ◌==◌, if◌then◌else◌, List, [], ◌∷◌}, List.Sorted.{IsPermutation}}
 use Rattle.ptu_units.specs.Counts.{counted}
 use Rattle.ptu_history.specs.{Counts.{counts}, History.{Record}}
 use Rattle.ptu_profile.specs.declared.grandmaster.GmConfig.{GmConfig}
@@ -19,6 +19,10 @@ pub record KeptGm (P : Type 0) : Type 0 where
   pub granted : ℕ
   pub refused : ℕ
   pub sequence : ℕ
+
+-- its ports, in order of index: those of the four tables, and that of Signaling messages
+abbrev pub five_ports : {P : Type 0} → KeptGm P → List P
+five_ports gm = gm.s0.port ∷ gm.s1.port ∷ gm.s2.port ∷ gm.s3.port ∷ gm.reply ∷ []
 
 -- the four tables, in order of index
 abbrev pub tables : {P : Type 0} → KeptGm P → List Lent

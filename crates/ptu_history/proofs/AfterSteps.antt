@@ -4,6 +4,7 @@ use Rattle.std.specs.List.{All, AllPairs, Contains, filter, find, list_any}
 use Rattle.std.specs.Option.{option_map_or}
 use Rattle.std.proofs.lemmas.Bool.{and_from, and_left, and_parts, and_right, le-leb, lt-leb, or_parts}
 use Rattle.std.proofs.lemmas.{List.{append-nil}, List.Elements.{All-cons, All-nil, filter_agree}}
+use Rattle.std.proofs.Math.Bool.{or-false}
 use Rattle.ptu_units.specs.declared.kind.{Kind.{Kind}, Kind.TheVariants.{Announce, Sync, DelayResp}}
 use Rattle.ptu_units.specs.{declared.client.Client.{Client}, Client.{same_lease, table_of}}
 use Rattle.ptu_history.specs.History.{Record, Capacity, Ended, Granted, Looked, Sent, Shed, capacity_in_force, concerns, decides, is_change, is_decision, lease_records, moment_of}
@@ -20,7 +21,7 @@ use Rattle.ptu_history.proofs.Capacities.{capacity_in_force-append, capacity_in_
 use Rattle.ptu_history.proofs.Currents.{is_decided, standing-append, standing-undecided}
 use Rattle.ptu_units.proofs.Keys.{same_lease-refl, same_lease-true}
 use Rattle.ptu_history.proofs.LeaseRecords.{lease_records-append, lease_records-push_own}
-use Rattle.ptu_history.proofs.{Lists.{or-false}, LiveGrants.{LiveGrant, live-grant}}
+use Rattle.ptu_history.proofs.{LiveGrants.{LiveGrant, live-grant}}
 use Rattle.ptu_history.proofs.Members.{Differ, any_member, member_any, none_other, pairs_first, pairs_front, pairs_rest, same_test}
 use Rattle.ptu_history.proofs.{Moments.{table_moment-looked}, Order.{shed_prefix-rest}}
 use Rattle.ptu_history.proofs.Orders.{due_grants-distinct, due_grants-members, shed_order-distinct}

@@ -3,12 +3,13 @@ use Rattle.std.proofs.Common.{◌≡◌, ◌∙◌, ℕ, ◌++◌, List, [], ◌
 use Rattle.std.specs.{List.{filter, list_any}, Option.{option_or}}
 use Rattle.std.proofs.lemmas.{Bool.{and_parts, true≢false}, List.{append-nil}}
 use Rattle.std.proofs.lemmas.List.{Elements.{filter_agree}, Folds.{list_any-append}}
+use Rattle.std.proofs.Math.Bool.{or-false}
 use Rattle.ptu_units.specs.declared.kind.Kind.{Kind}
 use Rattle.ptu_units.specs.{declared.client.Client.{Client}, Client.{same_lease}}
 use Rattle.ptu_history.specs.History.{Record, Granted, Short, Ended, Capacity, Shed, Looked, Sent, concerns, decides, is_decision, lease_records}
 use Rattle.ptu_history.specs.Live.{Grant, is_live, is_live_of, last_decision, live, standing, without}
 use Rattle.ptu_units.proofs.Keys.{same_lease-true, same_lease-sym}
-use Rattle.ptu_history.proofs.Lists.{by_push, filter-all, or-false, list_any-filter, list_any-filter_none}
+use Rattle.ptu_history.proofs.Lists.{by_push, filter-all, list_any-filter, list_any-filter_none}
 use Rattle.ptu_history.proofs.LeaseRecords.{last_decision-append, last_decision-one}
 
 -- a later record decides on the client and kind of the grant

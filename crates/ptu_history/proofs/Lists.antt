@@ -21,10 +21,6 @@ pub filter-comm : {A : Type 0} (p q : A → Bool) (xs : List A) → filter p (fi
 filter-comm p q [] = refl
 filter-comm p q (x ∷ xs) = grind (arith, filter-comm p q xs)
 
-pub or-false : (b : Bool) → (b || false) ≡ b
-or-false true = refl
-or-false false = refl
-
 -- what the filter drops fails the test anyway
 pub list_any-filter : {A : Type 0} (p q : A → Bool) → ((x : A) → p x ≡ true → q x ≡ true) → (xs : List A) → list_any p (filter q xs) ≡ list_any p xs
 list_any-filter p q keeps [] = refl

@@ -3,12 +3,14 @@ use Rattle.std.proofs.Common.{◌≡◌, ◌∙◌, ℕ, ◌<◌, ◌≤◌, max
 use Rattle.std.specs.List.{All, Contains, list_any}
 use Rattle.std.proofs.lemmas.Bool.{false≢true, leb-false, leb-true}
 use Rattle.std.proofs.lemmas.List.Elements.{All-cons, All-head, All-nil, All-tail, All-weaker, Contains-append_right}
-use Rattle.ptu_units.specs.Client.{table_of}
+use Rattle.ptu_units.specs.{declared.client.Client.{Client}, Client.{table_of}}
 use Rattle.ptu_history.specs.History.{Record, Capacity, Looked, moment_of}
 use Rattle.ptu_history.specs.Live.{Grant}
 use Rattle.ptu_history.specs.Moments.{IsGreatest, greatest_by, book_part, table_part, is_of_table, book_moment, table_moment}
 use Rattle.ptu_history.specs.{Turns.{sent_record}, Shedding.{shed_record}}
 use Rattle.ptu_history.specs.Core.{table_step_moment, book_step_moment}
+use Rattle.ptu_history.specs.Step.{answer_records}
+use Rattle.ptu_history.specs.Events.{Answer, Answered, NoGrant, TooSoon}
 use Rattle.ptu_history.proofs.Lists.{greatest_by-append, greatest_by-push, greatest_by-map-le}
 
 pub book_moment-push : (history : List Record) (r : Record) → book_moment (history ++ r ∷ []) ≡ max (book_moment history) (book_part r)
@@ -156,3 +158,9 @@ table_part-le j r = at (is_of_table j r)
     at : (b : Bool) → cond b (moment_of r) 0 ≤ moment_of r
     at true = omega arith
     at false = omega arith
+
+-- no record of an answer to a Delay_Req counts for the book
+pub answer_looked : (x : ℕ) (c : Client) (answer : Answer) → greatest_by book_part (Looked x (table_of c) ∷ answer_records x c answer) ≡ 0
+answer_looked x c Answered = refl
+answer_looked x c NoGrant = refl
+answer_looked x c (TooSoon earliest) = refl

@@ -106,10 +106,10 @@ pub IsPermutation-in_order : {A : Type 0} (cmp : A → A → Ordering) (xs : Lis
 IsPermutation-in_order cmp [] = IsPermutation-refl []
 IsPermutation-in_order cmp (x ∷ xs) = IsPermutation-trans (x ∷ xs) (x ∷ in_order cmp xs) (insert_in_order cmp x (in_order cmp xs)) (IsPermutation-cons x xs (in_order cmp xs) (IsPermutation-in_order cmp xs)) (insert_permutes cmp x (in_order cmp xs))
 
-client_cmp-total : IsTotalOrder client_cmp
+pub client_cmp-total : IsTotalOrder client_cmp
 client_cmp-total = then_total (on_total (λ (c : Client). c.ip) nat_cmp_total) (then_total (on_total (λ (c : Client). c.clock) nat_cmp_total) (on_total (λ (c : Client). c.port) nat_cmp_total))
 
-kind_cmp-total : IsTotalOrder kind_cmp
+pub kind_cmp-total : IsTotalOrder kind_cmp
 kind_cmp-total = on_total kind_place nat_cmp_total
 
 -- the orders of a turn and of a shedding

@@ -18,9 +18,7 @@ use Rattle.ptu_units.proofs.Keys.{same_lease-sym}
 use Rattle.ptu_history.proofs.Order.{IsAsymmetric-total, IsPermutation-in_order, IsSorted-in_order, shed_cmp-total, turn_cmp-total}
 use Rattle.ptu_history.proofs.Standing.{Contains-filter, standing-distinct, standing-last, standing-member}
 use Rattle.ptu_history.proofs.Unique.{Apart-from_pairs, Apart-in_order, Contains-from_filter, Rises-from_sorted, Rises-unique, pairs_from_Apart}
-
-abbrev Differ : Grant → Grant → Type 0
-Differ a b = same_lease a.client a.kind b.client b.kind ≡ false
+use Rattle.ptu_history.proofs.Members.{Differ}
 
 differ_back : (a b : Grant) → Differ a b → Differ b a
 differ_back a b e = same_lease-sym b.client b.kind a.client a.kind ∙ e

@@ -4,15 +4,17 @@ use Rattle.std.specs.{List.{All, AllPairs, Contains, filter, list_any}, Option.{
 use Rattle.std.proofs.lemmas.Bool.{or_right, or_left, false_from_ne_true, false≢true, true≢false, not-true}
 use Rattle.std.proofs.lemmas.List.Elements.{All-append, All-cons, All-filter, All-nil, All-weaker, Contains-append_left, Contains-append_right, filter_passes}
 use Rattle.std.proofs.lemmas.List.Kept.{AllPairs-cons}
+use Rattle.std.proofs.Math.Bool.{or-false}
 use Rattle.ptu_units.specs.declared.kind.Kind.{Kind}
 use Rattle.ptu_units.specs.{declared.client.Client.{Client}, Client.{same_lease}}
 use Rattle.ptu_history.specs.History.{Record, Granted, decides, lease_records}
 use Rattle.ptu_history.specs.Live.{Grant, IsLastDecision, last_decision, standing}
 use Rattle.ptu_units.proofs.Keys.{same_lease-refl, same_lease-true}
-use Rattle.ptu_history.proofs.Lists.{by_push, or-false}
+use Rattle.ptu_history.proofs.Lists.{by_push}
 use Rattle.ptu_history.proofs.LeaseRecords.{last_decision-append, last_decision-one}
 use Rattle.ptu_history.proofs.Decisions.{last_decision-decided}
 use Rattle.ptu_history.proofs.Currents.{standing-append, standing-granted}
+use Rattle.ptu_history.proofs.Members.{Differ}
 
 pub last_pushed : (history : List Record) (r : Record) (c : Client) (k : Kind) → last_decision (history ++ r ∷ []) c k ≡ cond (decides c k r) (Some r) (last_decision history c k)
 last_pushed history r c k =
@@ -120,10 +122,6 @@ standing-decided (Granted n c k l u ∷ history) = at (list_any (decides c k) hi
         All-cons (IsDecided (Granted n c k l u ∷ history)) this (standing history)
         (or_left (same_lease c k c k) (list_any (decides c k) history) (same_lease-refl c k)) later
 standing-decided (r ∷ history) = decided_later r history (standing history) (standing-decided history)
-
--- the two are of different clients or kinds
-abbrev Differ : Grant → Grant → Type 0
-Differ a b = same_lease a.client a.kind b.client b.kind ≡ false
 
 differ_undecided : (history : List Record) (a g : Grant) → list_any (decides a.client a.kind) history ≡ false → IsDecided history g → Differ a g
 differ_undecided history a g none decided = false_from_ne_true (same_lease a.client a.kind g.client g.kind) (λ e.

@@ -40,7 +40,7 @@ from_T : (b : Bool) → T b → b ≡ true
 from_T true t = refl
 from_T false t = absurd t
 
-to_T : (b : Bool) → b ≡ true → T b
+pub to_T : (b : Bool) → b ≡ true → T b
 to_T true e = tt
 to_T false e = absurd (false≢true e)
 

@@ -8,6 +8,7 @@ use Rattle.ptu_report.specs.Rules.{Goes, IsOutcome, Outcome, Refuses, Rules, end
 use Rattle.ptu_judges.specs.Held.{Held}
 use Rattle.ptu_outside.specs.Handing.{HasPut}
 use Rattle.ptu_units.specs.Counts.{counted}
+use Rattle.ptu_units.proofs.Counts.{counted-whole}
 use Rattle.ptu_report.specs.{declared.fault.RunFault.{RunFault}, Reported.{HasReported}}
 use Rattle.ptu_report.specs.Runs.{IfRefused}
 use Rattle.ptu_report.proofs.Answered.{refused_weaker}
@@ -35,10 +36,6 @@ module _ {M C : Type 0} (r : Rules M C) (lines : ℕ) where
       at_outcome (before + 1) (r.step m (before + 1) text) (λ after. ending_after r after (before + 1) rest) (λ after. meaning_after r after (before + 1) rest)
       (λ after e. meant rest after (before + 1) e) e
 
--- a number that a count holds is counted whole
-counted_whole : (n : ℕ) → n ≤ 2 ^ 64 - 1 → counted n ≡ n
-counted_whole n few = omega (arith, few)
-
 module _ {J B : Type 0} {I : J → Type 0} (see : SlaveNode J I → Seen MemoryPort B) where
   -- the lab that stands for what all lines lead to has the numbers of the report
   pub numbers_told : (flags gaps : List Held) (lab : Lab J I) (stock : Stock) (script : List ℕ) (lines : ℕ) (done : Done)
@@ -57,8 +54,8 @@ module _ {J B : Type 0} {I : J → Type 0} (see : SlaveNode J I → Seen MemoryP
       by None some s c = absurd (let no : false ≡ true = some in cc)
       by (Some course) some s c = record {
         datagrams = datagrams ∙ (ap length s.sent ∙ ap (λ w. length w.sent) c.world);
-        granted = granted ∙ (s.granted ∙ (ap counted c.granted ∙ counted_whole (granted_count (report_lines stock script)) few_granted));
-        refused = refused ∙ (s.short ∙ (ap counted c.short ∙ counted_whole (short_count (report_lines stock script)) few_short));
+        granted = granted ∙ (s.granted ∙ (ap counted c.granted ∙ counted-whole (granted_count (report_lines stock script)) few_granted));
+        refused = refused ∙ (s.short ∙ (ap counted c.short ∙ counted-whole (short_count (report_lines stock script)) few_short));
       }
 
   -- whatever texts the journal holds, the lab stands for what it stood for

@@ -10,11 +10,11 @@ use Rattle.ptu_report_lines.specs.declared.report_line.ReportLine.{ReportLine}
 use Rattle.ptu_report_lines.specs.declared.report_line.ReportLine.TheVariants.{At, End}
 use Rattle.ptu_report_lines.specs.declared.statement.Statement.{Statement}
 use Rattle.ptu_report_lines.specs.declared.statement.Statement.TheVariants.{Bad}
-use Rattle.ptu_world.specs.{World.{World, Stock, Done, opening, step}, Facts.{EndsBy, world_of}}
+use Rattle.ptu_world.specs.{World.{Done, Stock, World, no_judges, opening, step}, Facts.{EndsBy, world_of}}
 use Rattle.ptu_world.specs.Report.{course_opening, lines_by, lines_by_line, lines_from, report_lines, rules}
 use Rattle.ptu_world.proofs.Reported.{ends_of_rules}
 use Rattle.ptu_report.specs.Runs.{CountsRead, CountsWrite}
-use Rattle.ptu_lab.specs.Load.{no_stock, numbers_of}
+use Rattle.ptu_lab.specs.Load.{numbers_of}
 use Rattle.ptu_lab.specs.Replayed.{AreCounts, HasReplayed, IfReplayed}
 use Rattle.ptu_lab.specs.declared.done.Done.{Done as Answer}
 use Rattle.ptu_report.specs.declared.fault.RunFault.{RunFault}
@@ -100,12 +100,12 @@ not_refused stock script count number cause whole refused =
 -- ---- the answer
 
 module _ {K : Type 0} (W : K → Option (List ℕ)) (H : K → Option (List (List ℕ))) (old new : K) (script : List ℕ) where
-  numbers_are : (done : Answer) → HasReplayed W H old new no_stock script (endings.Whole done.lines) → AreCounts no_stock script done → done ≡ numbers_of script
+  numbers_are : (done : Answer) → HasReplayed W H old new no_judges script (endings.Whole done.lines) → AreCounts no_judges script done → done ≡ numbers_of script
   unfolding numbers_of
   numbers_are done r counts =
-      rw (counts_all (opening no_stock) (script_lines script) r.ends.0 done.lines _ r.ends.1, counts.datagrams, counts.granted, counts.refused) refl
+      rw (counts_all (opening no_judges) (script_lines script) r.ends.0 done.lines _ r.ends.1, counts.datagrams, counts.granted, counts.refused) refl
 
-  pub numbers : (stock : Stock) (answer : Result Answer (RunFault Cause)) → stock ≡ no_stock → IfReplayed answer (HasReplayed W H old new stock script)
+  pub numbers : (stock : Stock) (answer : Result Answer (RunFault Cause)) → stock ≡ no_judges → IfReplayed answer (HasReplayed W H old new stock script)
       → IfOk answer (AreCounts stock script) → IfOk answer (λ done. done ≡ numbers_of script)
   numbers stock (Ok done) e r counts = numbers_are done (subst (λ s. HasReplayed W H old new s script (endings.Whole done.lines)) e r) (subst (λ s. AreCounts s script done) e counts)
   numbers stock (Err fault) e r counts = tt

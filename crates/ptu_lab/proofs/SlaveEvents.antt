@@ -34,13 +34,6 @@ all_sent before after ds idle told = let same : before.sent ++ ds ≡ after.sent
 
 -- ---- the node
 
-places_within : (a n k : ℕ) → a + n ≤ k → AllByRecursion (λ m. m < k) (range_with_len a n)
-places_within a zero k le = tt
-places_within a (suc n) k le = (omega arith, places_within (a + 1) n k (omega arith))
-
-pub all_places : (n : ℕ) → AllByRecursion (λ m. m < n) (places n)
-all_places n = places_within 0 n n (omega arith)
-
 pub stepped : (ip : ℕ) (old new : Kept) (judges news : List Held) (before after : MemoryPort) (begun : Bool) (s : Slave) (t : ℕ) (e : SlaveEvent) (deed : Deed)
     → IsSlaveNode ip old judges before begun s → ((m : ℕ) → e ≢ ReplaceJudge m None)
     → AllByRecursion (λ m. m < length old.masters) (judged_masters (length old.masters) e) → IsSame old new
@@ -152,10 +145,6 @@ replaced ip old new judges news judge before after begun s t m rule is h within 
     stepped ip old new judges news before after begun s t (ReplaceJudge m (Some rule)) (deed s.opened s.taken t (ReplaceJudge m (Some rule))) h (λ n other. absurd (cc other)) (within, tt) same
     (subst (λ (j : Held). Steps s.opened.openings old new news s.taken t (ReplaceJudge m j.rule)) is steps) refl
     (ap (λ (p : MemoryPort). p.sent) still ∙ h.idle) (subst (λ p. IsSure p []) (sym still) h.sure)
-
--- a judge that is fresh
-pub fresh_is : (held : Held) (rule : Rule) → held ≡ fresh rule → IsFresh held
-fresh_is held rule is = subst IsFresh (sym is) refl
 
 -- ---- an event that no datagram makes
 

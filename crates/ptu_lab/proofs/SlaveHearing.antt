@@ -1,6 +1,6 @@
 -- What a slave of a script heard, and what it does of it.
 use Rattle.std.proofs.Common.{◌≡◌, ℕ, suc, ◌+◌, ◌<◌, max, Bool, true, false, List, [], ◌∷◌, ◌++◌, length, map, Option, Some, Ok, Err, refl, ap, ap₂, sym, subst, ◌∙◌, arith}
-use Rattle.std.proofs.lemmas.{Bool.{false≢true}, List.{append-nil}}
+use Rattle.std.proofs.lemmas.{Bool.{false≢true}, List.{append-nil, length-map}}
 use Rattle.std.specs.Prelude.{IfOk, IsOk, OnOk, Result}
 use Rattle.ptu_messages.specs.declared.header.Header.{Header}
 use Rattle.ptu_messages.specs.declared.message.Body.{Body}
@@ -56,10 +56,6 @@ one_of Failed xs sent each few = absurd (omega (arith, sent))
 one_of Nothing [] sent each few = refl
 one_of Nothing (x ∷ xs) sent each few = absurd (omega arith)
 
-length-same : {A B : Type 0} (f : A → B) (xs : List A) → length (map f xs) ≡ length xs
-length-same f [] = refl
-length-same f (x ∷ xs) = ap (λ n. suc n) (length-same f xs)
-
 few_replies : (m number : ℕ) (codes : List ℕ) → length (one_reply m number codes) < 2
 few_replies m number [] = omega arith
 few_replies m number (code ∷ codes) = omega arith
@@ -80,7 +76,7 @@ heard_is : (node : Node) (L : Record) (t x : ℕ) (r : Result (ℕ × Message) S
     → reply_failed (reply_in h) ≡ 0 → reply_sent (reply_in h) + reply_failed (reply_in h) ≡ length (replies_in node.config node.masters r) → h ≡ reception_heard node L t r
 heard_is node L t x (Err reason) h at is sent each = is
 heard_is node L t x (Ok (m, message)) h at is sent each =
-    heard_body node x m message.header message.body h is sent (each ∙ length-same (sending_departure node.config node.masters message.header.source) (replies_to m message))
+    heard_body node x m message.header message.body h is sent (each ∙ length-map (replies_to m message) (sending_departure node.config node.masters message.header.source))
     ∙ ap (λ y. heard_of node.config.wants y (reply_by (replies_to m message)) (m, message)) at
 
 pub heard_datagram : (ip : ℕ) (old : Kept) (judges : List Held) (port : MemoryPort) (begun : Bool) (s : Slave) (t from : ℕ) (octets : List ℕ) (h : Heard)

@@ -53,13 +53,14 @@ rules_are openings kept judges h = rules_by judges openings (h.each_judged ∙ s
 fresh_ruled : (held : Held) (rule : Rule) → held ≡ fresh rule → IsSome held.rule
 fresh_ruled held rule is = subst (λ (h : Held). IsSome h.rule) (sym is) refl
 
-fresh_of : (held : Held) (rule : Rule) → held ≡ fresh rule → IsFresh held
-fresh_of held rule is = subst IsFresh (sym is) refl
+-- a judge that is made is fresh
+pub fresh_is : (held : Held) (rule : Rule) → held ≡ fresh rule → IsFresh held
+fresh_is held rule is = subst IsFresh (sym is) refl
 
 -- all are fresh with the new one
 pub judges_fresh : (ip : ℕ) (kept : Kept) (judges : List Held) (port : MemoryPort) (s : Slave) (judge : Held) (rule : Rule) → IsSlaveNode ip kept judges port false s
     → judge ≡ fresh rule → AllByRecursion IsFresh (judges ++ judge ∷ [])
-judges_fresh ip kept judges port s judge rule h is = all_push IsFresh judges judge (h.fresh refl).1 (fresh_of judge rule is)
+judges_fresh ip kept judges port s judge rule h is = all_push IsFresh judges judge (h.fresh refl).1 (fresh_is judge rule is)
 
 -- ---- the node
 

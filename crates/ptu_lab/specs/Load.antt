@@ -3,23 +3,19 @@
 use Rattle.std.specs.{Prelude.{ℕ, List, ◌++◌, codes, length}, Fmt.{decimal}}
 use Rattle.serde_json.specs.Data.{Data, number, unsigned, object, member, no_members}
 use Rattle.ptu_lines.specs.Script.{script_lines}
-use Rattle.ptu_world.specs.{World.{Stock}, Facts.{world_of}}
+use Rattle.ptu_world.specs.{World.{Stock, no_judges}, Facts.{world_of}}
 use Rattle.ptu_world.specs.Report.{granted_count, report_lines, short_count}
 use Rattle.ptu_lab.specs.declared.done.Done.{Done}
 use Rattle.ptu_show.specs.Generated.{generated}
-
--- a stock without judges
-abbrev pub no_stock : Stock
-no_stock = record { flags = 0; gaps = 0 }
 
 -- the numbers of the report on a script without slaves: its lines and the datagrams sent, and its
 -- counts of `granted` and `short` lines
 unfoldable pub numbers_of : List ℕ → Done
 numbers_of script = record {
   lines = length (script_lines script);
-  datagrams = length (world_of no_stock script).sent;
-  granted = granted_count (report_lines no_stock script);
-  refused = short_count (report_lines no_stock script);
+  datagrams = length (world_of no_judges script).sent;
+  granted = granted_count (report_lines no_judges script);
+  refused = short_count (report_lines no_judges script);
 }
 
 -- the JSON object of these numbers, its keys in this order

@@ -5,13 +5,10 @@ ghost use Rattle.std.specs.Prelude.{◌≡◌, OnOk, Some};
 ghost use Rattle.ptu_lanes.specs.{Heard.{TookOrder, WasAnswered}, Orders.{stops_by}};
 
 use ptu_config::{Cause, Command, Reply, read_command, reply_text};
-use ptu_outside::{Ahead, Channel, Failed, Port, hand};
+use ptu_outside::{Ahead, Channel, Failed, LOOPBACK, Port, hand};
 use ptu_units::sizes::LONGEST_DATAGRAM;
 use ptu_units::{Capacity, OutOfMemory};
 use std::alloc::Global;
-
-/// The address of this machine itself, to which answers go.
-const LOOPBACK: u32 = 0x7f00_0001;
 
 /// What the next datagram of a control port asks for, where one waits and begins with the key.
 /// `None` where there is nothing to answer. A receive that fails is as if none waited.

@@ -14,6 +14,7 @@ use Rattle.ptu_history.specs.Core.{core_moment, core_step, core_history}
 use Rattle.ptu_history.specs.Held.{Payment, budget, count, force, held, is_by, payment, payments, payments_after}
 use Rattle.ptu_history.proofs.{Lists.{by_push}, Capacities.{budget-same}}
 use Rattle.ptu_history.proofs.Histories.{history-event, history-none}
+use Rattle.ptu_history.proofs.AfterSteps.{sent_unchanged}
 use Rattle.ptu_laws.specs.{Changes.{is_resize}, Sound.{IsSound}}
 use Rattle.ptu_laws.proofs.{Capacity.{held-sound}, Followed.{AllMayFollow}}
 use Rattle.ptu_laws.proofs.Stands.{follow-stand, sound-core, stand-from}
@@ -79,11 +80,6 @@ count-sound opening h sound n =
 pub count-within : (config : Config) (events : List (ℕ × Event)) (n : ℕ) → count (core_history config events) n * (16 * 1000000000) ≤ budget config.capacity (core_history config events) n
 count-within config events = count-sound config.capacity (core_history config events) (sound-core config events)
 
--- no record of another event changes the capacity
-map_unchanged : (x : ℕ) (gs : List Grant) → list_any is_change (map (sent_record x) gs) ≡ false
-map_unchanged x [] = refl
-map_unchanged x (g ∷ gs) = map_unchanged x gs
-
 verdict_unchanged : (x : ℕ) (c : Client) (v : Verdict) → list_any is_change (verdict_records x c v) ≡ false
 verdict_unchanged x c (GrantedFor k l seconds until) = refl
 verdict_unchanged x c (ShortOf k l others rate capacity) = refl
@@ -97,7 +93,7 @@ answer_unchanged x c (TooSoon earliest) = refl
 pub step_unchanged : (config : Config) (before : List Record) (t : ℕ) (event : Event) → is_resize event ≡ false → list_any is_change (core_step config before t event).records ≡ false
 step_unchanged config before t (Request c ask) other = verdict_unchanged (core_moment before t (Request c ask)) c (verdict config before (core_moment before t (Request c ask)) c ask)
 step_unchanged config before t (Cancel c k) other = refl
-step_unchanged config before t (Turn j) other = map_unchanged (core_moment before t (Turn j)) (due_grants before (core_moment before t (Turn j)) j)
+step_unchanged config before t (Turn j) other = sent_unchanged (core_moment before t (Turn j)) (due_grants before (core_moment before t (Turn j)) j)
 step_unchanged config before t (DelayReq c) other = answer_unchanged (core_moment before t (DelayReq c)) c (delay_answer before (core_moment before t (DelayReq c)) c)
 step_unchanged config before t (Resize capacity) other = absurd (true≢false other)
 

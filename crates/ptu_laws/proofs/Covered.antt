@@ -14,8 +14,9 @@ use Rattle.ptu_history.specs.History.{Record}
 use Rattle.ptu_history.specs.Held.{Payment, Term, held, is_in_term, payments, terms}
 use Rattle.ptu_units.proofs.Keys.{same_lease-true}
 use Rattle.ptu_history.proofs.Lists.{list_any-filter}
+use Rattle.ptu_history.proofs.Members.{pairs_front, pairs_rest}
 use Rattle.ptu_laws.specs.Paid.{IsBefore, IsPaid, is_held_at, is_term_at}
-use Rattle.ptu_laws.proofs.{Payments.{pairs_head, pairs_tail}, Sums.{sum-filter}}
+use Rattle.ptu_laws.proofs.Sums.{sum-filter}
 
 -- rate times period is the same for each logarithm in range
 pub in_any : (k : Kind) (l : ℤ) → IsLogOf k l → (negsuc 6 ≤ℤ l) × (l ≤ℤ pos 4)
@@ -124,9 +125,9 @@ covered [] ts differ behind = omega arith
 covered (p ∷ ps) ts differ behind =
     let here : HasTerm ts p = All-head (HasTerm ts) p ps behind in
     let rest : List Term = filter (λ t. not (is_own p.client p.kind t)) ts in
-    let others : All (Differs p) ps = pairs_head Differs p ps differ in
+    let others : All (Differs p) ps = pairs_front Differs p ps differ in
     let ih : sum_by weight ps ≤ term_rate rest
-    = covered ps rest (pairs_tail Differs p ps differ)
+    = covered ps rest (pairs_rest Differs p ps differ)
     (λ i d lt. let was : HasTerm ts (get_or ps i d) = All-tail (HasTerm ts) p ps behind i d lt in
     record { log = was.log; is = was.is; there = list_any-filter (is_term_as (get_or ps i d).client (get_or ps i d).kind was.log) (λ t. not (is_own p.client p.kind t)) (λ t e. kept (get_or ps i d) (others i d lt) was.log t e) ts ∙ was.there }) in
     omega (arith, sum_by-cons weight p ps, here.is, term_there p.client p.kind here.log ts here.there, term_rate-parts p.client p.kind ts, ih)

@@ -19,6 +19,7 @@ use Rattle.ptu_laws.proofs.Followed.{AllMayFollow, MayFollow, by_following, may-
 use Rattle.ptu_laws.proofs.{Stands.{log_range}, HeldTime.{held_at-new, held_at-push}}
 use Rattle.ptu_history.proofs.AfterSteps.{chain-sent}
 use Rattle.ptu_history.proofs.LiveGrants.{Continued, LiveGrant, continued, live-grant}
+use Rattle.ptu_history.proofs.Members.{pairs_front, pairs_rest}
 use Rattle.ptu_laws.proofs.Paced.{earliest-sent_le, is-message}
 
 -- a payment, as it is kept from record to record: its message is not after the last message of its client and kind
@@ -57,17 +58,11 @@ all_payments P history (Capacity n capacity) old new = subst (λ ps. All P ps) (
 all_payments P history (Shed n c k) old new = subst (λ ps. All P ps) (sym (payments-other history (Shed n c k) refl)) old
 all_payments P history (Looked n j) old new = subst (λ ps. All P ps) (sym (payments-other history (Looked n j) refl)) old
 
-pub pairs_head : {A : Type 0} (R : A → A → Type 0) (x : A) (xs : List A) → AllPairs R (x ∷ xs) → All (R x) xs
-pairs_head R x xs pairs = λ i d lt. pairs 0 (suc i) d (omega arith) (omega arith)
-
-pub pairs_tail : {A : Type 0} (R : A → A → Type 0) (x : A) (xs : List A) → AllPairs R (x ∷ xs) → AllPairs R xs
-pairs_tail R x xs pairs = λ i j d before within. pairs (suc i) (suc j) d (omega arith) (omega arith)
-
 pairs_push : {A : Type 0} (R : A → A → Type 0) (xs : List A) (y : A) → AllPairs R xs → All (λ x. R x y) xs → AllPairs R (xs ++ y ∷ [])
 pairs_push R [] y pairs all = AllPairs-cons R y [] (All-nil (R y)) pairs
 pairs_push R (x ∷ xs) y pairs all =
-    AllPairs-cons R x (xs ++ y ∷ []) (All-push (R x) xs y (pairs_head R x xs pairs) (all 0 x (omega arith)))
-    (pairs_push R xs y (pairs_tail R x xs pairs) (λ i d lt. all (suc i) d (omega arith)))
+    AllPairs-cons R x (xs ++ y ∷ []) (All-push (R x) xs y (pairs_front R x xs pairs) (all 0 x (omega arith)))
+    (pairs_push R xs y (pairs_rest R x xs pairs) (λ i d lt. all (suc i) d (omega arith)))
 
 pairs_payments : (history : List Record) (r : Record) → AllPairs IsBefore (payments history) → ((x : ℕ) (c : Client) (k : Kind) → r ≡ Sent x c k → All (λ p. IsBefore p (payment history x c k)) (payments history)) → AllPairs IsBefore (payments (history ++ r ∷ []))
 unfolding payments_after

@@ -12,11 +12,12 @@ use Rattle.ptu_history.specs.{Live.{last_decision}, Lawful.{last_period}}
 use Rattle.ptu_history.specs.Held.{Payment, Term, is_by, is_in_term, payment, payments, payments_after, terms}
 use Rattle.ptu_units.proofs.Keys.{same_lease-true}
 use Rattle.ptu_history.proofs.Renewals.{last_period-granted}
+use Rattle.ptu_history.proofs.Members.{pairs_front, pairs_rest}
 use Rattle.ptu_laws.specs.Paid.{IsBefore, IsPaid, is_held_at, is_term_at}
 use Rattle.ptu_laws.specs.Served.{count_below, held_time, held_time_at, is_grant_at, is_held, is_own_term, is_sent_to, periods_sent, sent_at, sum_sent}
 use Rattle.ptu_laws.specs.Sound.{IsSound}
 use Rattle.ptu_laws.proofs.Followed.{AllMayFollow}
-use Rattle.ptu_laws.proofs.Payments.{message-paid, pairs_head, pairs_tail, payments-apart}
+use Rattle.ptu_laws.proofs.Payments.{message-paid, payments-apart}
 use Rattle.ptu_laws.proofs.Stands.{follow-stand, stand-from}
 
 module _ (test : ℕ → Bool) where
@@ -84,7 +85,7 @@ module _ (counted : List Record → ℕ) (test : ℕ → Bool) (c : Client) (k :
   unfolding sum_sent payments_after
   sum-from before [] e apart s le from = omega (arith, count-later test s t le)
   sum-from before (Sent x d j ∷ rest) e apart s le from =
-      at (same_lease c k d j) refl (leb x t) refl (sum-from (before ++ Sent x d j ∷ []) rest (append_assoc before (Sent x d j ∷ []) rest ∙ e) (pairs_tail IsBefore p ps apart))
+      at (same_lease c k d j) refl (leb x t) refl (sum-from (before ++ Sent x d j ∷ []) rest (append_assoc before (Sent x d j ∷ []) rest ∙ e) (pairs_rest IsBefore p ps apart))
     where
       p : Payment
       p = payment before x d j
@@ -106,7 +107,7 @@ module _ (counted : List Record → ℕ) (test : ℕ → Bool) (c : Client) (k :
             arith,
             is.amount,
             whole,
-            later p.end (omega (arith, in_time, by)) (λ i f lt of_it. pairs_head IsBefore p ps apart i f lt (alike c d k j is_same.0 is_same.1 (get_or ps i f) ∙ of_it)),
+            later p.end (omega (arith, in_time, by)) (λ i f lt of_it. pairs_front IsBefore p ps apart i f lt (alike c d k j is_same.0 is_same.1 (get_or ps i f) ∙ of_it)),
             count-whole test p.start p.end whole is.each,
             count-later test s p.start begins,
           )

@@ -18,7 +18,7 @@ use Rattle.ptu_units.proofs.Keys.{eq-eqb-table, same_lease-true}
 use Rattle.ptu_history.proofs.Currents.{standing-shed}
 use Rattle.ptu_history.proofs.Lists.{filter-comm, greatest_by-push}
 use Rattle.ptu_history.proofs.Moments.{book_step_moment-bounds, table_step_moment-bounds}
-use Rattle.ptu_history.proofs.{Rates.{rates-fit, table_below}, Verdicts.{is_log_of-true}}
+use Rattle.ptu_history.proofs.{Rates.{rates-fit, table_below}, Verdicts.{is_log_of-true, to_T}}
 use Rattle.ptu_laws.specs.Sound.{IsSound, MayStand, last_sent, sent_part, sheds_at}
 use Rattle.ptu_laws.proofs.Followed.{AllMayFollow, MayFollow, log_within, may-answer, may-turn}
 use Rattle.ptu_laws.proofs.{Rests.{rate_sum-filter}, Steps.{book_moment-at, by_events}}
@@ -190,14 +190,9 @@ pub greatest-le : (f g : Record → ℕ) → ((r : Record) → f r ≤ g r) → 
 greatest-le f g le [] = omega arith
 greatest-le f g le (r ∷ rs) = omega (arith, le r, greatest-le f g le rs)
 
-last_sent-table : (history : List Record) (c : Client) (k : Kind) → last_sent history c k ≤ table_moment history (table_of c)
+pub last_sent-table : (history : List Record) (c : Client) (k : Kind) → last_sent history c k ≤ table_moment history (table_of c)
 unfolding last_sent table_moment
 last_sent-table history c k = greatest-le (sent_part c k) (table_part (table_of c)) (sent_part-le c k) history
-
--- the range of a logarithm, as a test and as a fact
-to_T : (b : Bool) → b ≡ true → T b
-to_T true e = tt
-to_T false e = absurd (false≢true e)
 
 pub log_range : (k : Kind) (l : ℤ) → is_log_of k l ≡ true → IsLogOf k l
 log_range k l e =

@@ -2,7 +2,7 @@
 use Rattle.std.proofs.Common.{◌≡◌, ℕ, List, Bool, true, false, T, Option, Some, None, refl, subst, sym, ℤ, pos, negsuc, arith}
 use Rattle.std.proofs.{lemmas.Int.{ints}, Math.Bool.{and-false}}
 use Rattle.std.specs.{Option.{option_and_then}, Prelude.{int_le}, Int.Signed.{◌≤ℤ◌, le_z_yes}}
-use Rattle.ptu_units.specs.declared.kind.{Kind.{Kind}, Kind.TheVariants.{Announce, Sync, DelayResp}}
+use Rattle.ptu_units.specs.declared.kind.{Kind.{Kind}, Kind.TheVariants.{Announce, DelayResp, Sync}}
 use Rattle.ptu_units.specs.Log.{least_log}
 use Rattle.ptu_lines.specs.Words.{int_within, log_of, log_within}
 

@@ -11,7 +11,7 @@ use Rattle.std.specs.Str.Parse.{digits_value, AllDigits}
 use Rattle.ptu_lines.specs.Words.{is_short, number_of, negative, has_sign, log_of}
 use Rattle.ptu_lines.proofs.DecimalDigits.{list_all-digits}
 
-numerals : IsNumeralModel (AllDigits 10) (digits_value 10)
+pub numerals : IsNumeralModel (AllDigits 10) (digits_value 10)
 numerals = record { to = λ ds h. h; from = λ ds h. h; same = λ ds h. refl }
 
 -- what a short word is

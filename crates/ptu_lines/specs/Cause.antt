@@ -1,7 +1,7 @@
 -- How the cause for which a line is refused is written.
 use Rattle.std.specs.{Prelude.{ℕ, List, ◌++◌, codes}, Fmt.{decimal}}
 use Rattle.ptu_lines.specs.declared.cause.LineCause.{LineCause}
-use Rattle.ptu_lines.specs.declared.cause.LineCause.TheVariants.{Size, Long, Text, Word, Count, Field}
+use Rattle.ptu_lines.specs.declared.cause.LineCause.TheVariants.{Count, Field, Long, Size, Text, Word}
 
 abbrev pub line_cause_word : LineCause → List ℕ
 line_cause_word Size = codes "size"

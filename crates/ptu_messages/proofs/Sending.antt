@@ -139,7 +139,7 @@ AreSpelled-sent (tlv ∷ tlvs) wide sendable =
     let others = AreSpelled-sent tlvs (All-tail HasWidths tlv tlvs wide) (All-tail IsSendable tlv tlvs sendable) in
     (sent_tlv tlv, flat_map sent_tlv tlvs, refl, one, others)
 
-length-sent_tlv-le : (tlv : Tlv) → length (sent_tlv tlv) ≤ 12
+pub length-sent_tlv-le : (tlv : Tlv) → length (sent_tlv tlv) ≤ 12
 length-sent_tlv-le (Request ask) = omega arith
 length-sent_tlv-le (Grant ask invited) = omega arith
 length-sent_tlv-le (Cancel code) = omega arith

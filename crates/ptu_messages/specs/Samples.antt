@@ -9,6 +9,7 @@ use Rattle.ptu_messages.specs.declared.message.Body.TheVariants.{DelayReq, Delay
 use Rattle.ptu_messages.specs.declared.message.Message.{Message}
 use Rattle.ptu_messages.specs.declared.fault.MessageFault.TheVariants as faults
 use Rattle.ptu_messages.specs.{Reading.{message_in}, Sent.{sent_message}}
+use Rattle.ptu_messages.specs.TlvsSamples.{announce_request}
 
 -- port 1 of a client and of a grandmaster
 abbrev pub sample_client : PortIdentity
@@ -78,9 +79,6 @@ to_grandmaster n values = octets_before 12 n ++ client_octets ++ 0x00 ∷ 0x00 �
 abbrev pub other_octets : List ℕ
 other_octets = 0x30 ∷ 0x00 ∷ 0x00 ∷ 0x02 ∷ 0xab ∷ 0xcd ∷ []
 
-abbrev pub request_octets : List ℕ
-request_octets = 0x00 ∷ 0x04 ∷ 0x00 ∷ 0x06 ∷ 0xb0 ∷ 0x01 ∷ 0x00 ∷ 0x00 ∷ 0x01 ∷ 0x2c ∷ []
-
 abbrev pub request : Tlv
 request = Request (record { code = 11; log = pos 1; seconds = 300 })
 
@@ -93,8 +91,8 @@ MessagesAreSpelled =
     (message_in delay_req ≡ Ok (record { header = header 1 sample_client 7; body = DelayReq (record { seconds = 0; nanos = 0 }) }))
     × (message_in (delay_resp ++ 0xde ∷ 0xad ∷ []) ≡ Ok response)
     × (message_in (slice_set announce 46 0xff) ≡ Ok announced)
-    × (message_in (to_grandmaster 60 (other_octets ++ request_octets)) ≡ Ok (asked (Other 0x3000 2 ∷ request ∷ [])))
-    × (message_in (to_grandmaster 50 (other_octets ++ request_octets)) ≡ Ok (asked (Other 0x3000 2 ∷ [])))
+    × (message_in (to_grandmaster 60 (other_octets ++ announce_request)) ≡ Ok (asked (Other 0x3000 2 ∷ request ∷ [])))
+    × (message_in (to_grandmaster 50 (other_octets ++ announce_request)) ≡ Ok (asked (Other 0x3000 2 ∷ [])))
     × (message_in (to_grandmaster 44 []) ≡ Ok (asked []))
     × (message_in (slice_set delay_req 0 0x02) ≡ Ok (record { header = header 2 sample_client 7; body = Ignored }))
 
@@ -105,9 +103,9 @@ FaultsAreFound =
     × (message_in (slice_set delay_req 3 43) ≡ Err (faults.Body 43 44))
     × (message_in (slice_set delay_resp 3 53) ≡ Err (faults.Body 53 54))
     × (message_in (slice_set announce 3 63) ≡ Err (faults.Body 63 64))
-    × (message_in (to_grandmaster 59 (other_octets ++ request_octets)) ≡ Err (faults.Tlv 50 (tlvs.Overrun 6 5)))
-    × (message_in (to_grandmaster 53 (other_octets ++ request_octets)) ≡ Err (faults.Tlv 50 (tlvs.Short 3)))
-    × (message_in (to_grandmaster 54 (slice_set request_octets 3 5)) ≡ Err (faults.Tlv 44 (tlvs.Length 4 5)))
+    × (message_in (to_grandmaster 59 (other_octets ++ announce_request)) ≡ Err (faults.Tlv 50 (tlvs.Overrun 6 5)))
+    × (message_in (to_grandmaster 53 (other_octets ++ announce_request)) ≡ Err (faults.Tlv 50 (tlvs.Short 3)))
+    × (message_in (to_grandmaster 54 (slice_set announce_request 3 5)) ≡ Err (faults.Tlv 44 (tlvs.Length 4 5)))
     × (message_in (to_grandmaster 172 (flat_map (λ (o : ℕ). o ∷ 0 ∷ 0 ∷ 0 ∷ []) (replicate 32 0x30))) ≡ Ok (asked (replicate 32 (Other 0x3000 0))))
     × (message_in (to_grandmaster 173 (flat_map (λ (o : ℕ). o ∷ 0 ∷ 0 ∷ 0 ∷ []) (replicate 33 0x30))) ≡ Err (faults.TooMany 172))
 
@@ -116,4 +114,4 @@ abbrev pub MessagesAreSent : Type 0
 MessagesAreSent =
     (sent_message response ≡ delay_resp)
     × (sent_message announced ≡ announce)
-    × (sent_message (asked (request ∷ [])) ≡ to_grandmaster 54 request_octets)
+    × (sent_message (asked (request ∷ [])) ≡ to_grandmaster 54 announce_request)

@@ -37,7 +37,7 @@ idle_again is idle unfailing = (ap (λ (p : MemoryPort). p.sent) is ∙ idle, ap
 -- ---- datagrams are handed over
 
 -- the grandmaster with an empty port of this index
-abbrev cleared : ℕ → KeptGm MemoryPort → KeptGm MemoryPort
+abbrev pub cleared : ℕ → KeptGm MemoryPort → KeptGm MemoryPort
 cleared i gm = with_port i (record (port_at i gm) { sent = [] }) gm
 
 -- each port in turn is handed over and cleared

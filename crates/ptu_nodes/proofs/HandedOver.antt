@@ -9,7 +9,7 @@ use Rattle.ptu_nodes.specs.Noted.{Noted, with_handed, with_sent}
 use Rattle.ptu_nodes.proofs.Noting.{sent_more, sent_nothing}
 
 -- what is left of a list from the place of one of its elements on
-drop-at : {A : Type 0} (xs : List A) (i : ℕ) (x : A) → slice_get xs i ≡ Some x → drop i xs ≡ x ∷ drop (i + 1) xs
+pub drop-at : {A : Type 0} (xs : List A) (i : ℕ) (x : A) → slice_get xs i ≡ Some x → drop i xs ≡ x ∷ drop (i + 1) xs
 drop-at xs i x is =
     let within : i < length xs = slice_get_within xs i x is in
     rw (add-one, drop-cons xs i x) (ap (λ y. y ∷ drop (suc i) xs) (get_or_from_slice_get xs i x x is))

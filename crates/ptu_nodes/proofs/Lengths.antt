@@ -12,6 +12,7 @@ use Rattle.ptu_messages.specs.declared.tlv.Tlv.TheVariants.{Request, Grant, Canc
 use Rattle.ptu_messages.specs.TlvsSent.{sent_tlv}
 use Rattle.ptu_messages.specs.declared.message.Message.{Message as Timed}
 use Rattle.ptu_messages.specs.Sent.{octets_sent, sent_body}
+use Rattle.ptu_messages.proofs.Sending.{length-sent_tlv-le}
 use Rattle.ptu_history.specs.Events.{Message}
 use Rattle.ptu_profile.specs.declared.grandmaster.GmConfig.{GmConfig}
 use Rattle.ptu_shard.specs.Messages.{body_of, departure_of, message_of_turn, response_of, message_of_response}
@@ -46,18 +47,11 @@ response_octets config x c request = message_octets (message_of_response config 
 
 -- ---- a Signaling
 
-tlv_octets : (tlv : Tlv) → length (sent_tlv tlv) ≤ 12
-tlv_octets (Request ask) = omega arith
-tlv_octets (Grant ask invited) = omega arith
-tlv_octets (Cancel code) = omega arith
-tlv_octets (Ack code) = omega arith
-tlv_octets (Other t n) = omega arith
-
 tlvs_octets : (tlvs : List Tlv) → length (flat_map sent_tlv tlvs) ≤ length tlvs * 12
 tlvs_octets [] = omega arith
 tlvs_octets (tlv ∷ tlvs) =
     let one : length (tlv ∷ tlvs) * 12 ≡ 12 + length tlvs * 12 = omega arith in
-    rw one (omega (arith, length-append (sent_tlv tlv) (flat_map sent_tlv tlvs), tlv_octets tlv, tlvs_octets tlvs))
+    rw one (omega (arith, length-append (sent_tlv tlv) (flat_map sent_tlv tlvs), length-sent_tlv-le tlv, tlvs_octets tlvs))
 
 pub signaling_octets : (config : GmConfig) (ip : ℕ) (target : PortIdentity) (sequence : ℕ) (tlvs : List Tlv) →
     length (signaling_to config ip target sequence tlvs).bytes ≤ 44 + length tlvs * 12

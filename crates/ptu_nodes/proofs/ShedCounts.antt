@@ -23,6 +23,7 @@ use Rattle.ptu_admit.specs.{declared.shed_list.Shed.{Shed}, Newest.{grant_of}, R
 use Rattle.ptu_admit.specs.Shed.{shed_of}
 use Rattle.ptu_admit.proofs.Grants.{row_of_live}
 use Rattle.ptu_shard.proofs.SoFar.{length-filter-le}
+use Rattle.ptu_shard.proofs.Standing.{is_live_row}
 use Rattle.ptu_admit.proofs.Sums.{Contains-map, IsMapped}
 use Rattle.ptu_grandmaster.specs.{Changed.{AreShedAt, leases_shed}, Gm.{KeptGm, StandsFor}}
 use Rattle.ptu_nodes.specs.GrandmasterPorts.{rows_kept}
@@ -51,9 +52,6 @@ length-within (x ∷ xs) ys apart inside =
     omega (arith, own, ih, length-parts (is_of x.client x.kind) ys)
 
 -- ---- the grants of rows
-
-abbrev is_live_row : ℕ → Row → Bool
-is_live_row x row = ltb x row.lease.until
 
 abbrev grants_in : ℕ → List Row → List Grant
 grants_in x rows = map grant_of (live_rows x rows)

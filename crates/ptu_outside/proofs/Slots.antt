@@ -13,7 +13,7 @@ IsRange octets s = (s.start ≤ s.end) × (s.end ≤ length octets)
 abbrev size : Slot → ℕ
 size s = s.end - s.start
 
-range-append : (octets more : List ℕ) (a b : ℕ) → a ≤ b → b ≤ length octets → slice_range (octets ++ more) a b ≡ slice_range octets a b
+pub range-append : (octets more : List ℕ) (a b : ℕ) → a ≤ b → b ≤ length octets → slice_range (octets ++ more) a b ≡ slice_range octets a b
 range-append octets more a b le within =
     ap (take (b - a)) (drop-append-le a octets more (omega arith)) ∙ take-append-le (b - a) (drop a octets) more (rw (length-drop a octets) (omega arith))
 

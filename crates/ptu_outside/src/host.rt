@@ -10,6 +10,9 @@ use crate::failed::Failed;
 use crate::opened::Opened;
 use crate::port::Port;
 
+/// The IPv4 address by which a machine speaks to itself, 127.0.0.1.
+pub const LOOPBACK: u32 = 0x7f00_0001;
+
 /// Where ports and clocks are opened and given back.
 pub trait Host {
     type P: Port + Send;

@@ -37,7 +37,7 @@ pub use endpoint::Endpoint;
 pub use failed::Failed;
 pub use fault::DaemonFault;
 pub use handing::hand;
-pub use host::Host;
+pub use host::{Host, LOOPBACK};
 pub use meeting::{Ahead, Meeting};
 pub use mem_clock::MemClock;
 pub use mem_host::MemHost;

@@ -5,10 +5,10 @@ use Rattle.ptu_profile.specs.declared.grandmaster.GmConfig.{GmConfig}
 use Rattle.ptu_history.specs.{Core.{core_history}, History.{Record}}
 use Rattle.ptu_history.proofs.Histories.{history-none}
 use Rattle.ptu_gm_messages.specs.Deciding.{opened_with}
-use Rattle.ptu_grandmaster.specs.Gm.{KeptGm, StandsFor}
+use Rattle.ptu_grandmaster.specs.Gm.{KeptGm, StandsFor, five_ports}
 use Rattle.ptu_pool_run.specs.{declared.pool.Pool.{Pool}, Pool.{capacity_at}, Events.{pool_history}}
 use Rattle.ptu_pool_run.specs.Making.{AreFresh}
-use Rattle.ptu_pool_run.specs.PoolsStanding.{KeptPools, StandFor, ports_of, ports_of_all}
+use Rattle.ptu_pool_run.specs.PoolsStanding.{KeptPools, StandFor, ports_of_all}
 
 pub ports-push : {P : Type 0} (gms : List (KeptGm P)) (g : KeptGm P) (rest : List P) →
     ports_of_all (gms ++ g ∷ []) ++ rest ≡ ports_of_all gms ++ g.s0.port ∷ g.s1.port ∷ g.s2.port ∷ g.s3.port ∷ g.reply ∷ rest

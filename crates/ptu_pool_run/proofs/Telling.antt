@@ -5,13 +5,9 @@ use Rattle.ptu_outside.specs.{Departure.{Departure}, MemoryPort.{MemoryPort}}
 use Rattle.ptu_grandmaster.specs.Gm.{KeptGm, port_at, with_port}
 use Rattle.ptu_pool_run.specs.{Output.{pool_line_text}, Sending.{sent_line}}
 use Rattle.ptu_nodes.specs.{GrandmasterPorts.{in_ports}, Standing.{AreIdle}}
+use Rattle.ptu_nodes.proofs.HandedOver.{drop-at}
+use Rattle.ptu_nodes.proofs.GrandmasterPorts.{cleared}
 use Rattle.ptu_pool_run.specs.Ports.{sent_texts}
-
--- what is left of a list from the place of one of its elements on
-drop-at : {A : Type 0} (xs : List A) (i : ℕ) (x : A) → slice_get xs i ≡ Some x → drop i xs ≡ x ∷ drop (i + 1) xs
-drop-at xs i x is =
-    let within : i < length xs = slice_get_within xs i x is in
-    rw (add-one, drop-cons xs i x) (ap (λ y. y ∷ drop (suc i) xs) (get_or_from_slice_get xs i x x is))
 
 -- of these datagrams those below the index are told: the texts, followed by those of the rest, are all
 abbrev pub AreTold : ℕ → ℕ → ℕ → List Departure → List (List ℕ) → List (List ℕ) → Type 0
@@ -43,9 +39,6 @@ next_told_behind line number before datagrams texts now more d told is more_is =
     )
 
 -- ---- the ports of a grandmaster, in turn
-
-abbrev pub cleared : ℕ → KeptGm MemoryPort → KeptGm MemoryPort
-cleared i gm = with_port i (record (port_at i gm) { sent = [] }) gm
 
 pub told_more : (line number : ℕ) (ds es : List Departure) (texts now more : List (List ℕ)) →
     now ≡ texts ++ sent_texts line number ds → more ≡ now ++ sent_texts line number es → more ≡ texts ++ sent_texts line number (ds ++ es)

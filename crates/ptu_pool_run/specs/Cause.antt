@@ -3,7 +3,7 @@ use Rattle.std.specs.Prelude.{ℕ, List, codes}
 use Rattle.ptu_lines.specs.Cause.{line_cause_text}
 use Rattle.ptu_lines.specs.declared.cause.LineCause.{LineCause}
 use Rattle.ptu_pool_run.specs.declared.cause.PoolCause.{PoolCause}
-use Rattle.ptu_pool_run.specs.declared.cause.PoolCause.TheVariants.{Line, Order, Net, Full, Overlap, Over, Number}
+use Rattle.ptu_pool_run.specs.declared.cause.PoolCause.TheVariants.{Full, Line, Net, Number, Order, Over, Overlap}
 
 abbrev pub pool_cause_text : PoolCause → List ℕ
 pool_cause_text (Line cause) = line_cause_text cause

@@ -1,7 +1,7 @@
 -- What callers see of pools, and the events that they stand for.
 use Rattle.std.specs.Prelude.{◌≡◌, ℕ, List, [], ◌∷◌, Option, Some, slice_get, slice_set, flat_map}
 use Rattle.ptu_profile.specs.declared.grandmaster.GmConfig.{GmConfig}
-use Rattle.ptu_grandmaster.specs.Gm.{KeptGm, StandsFor}
+use Rattle.ptu_grandmaster.specs.Gm.{KeptGm, StandsFor, five_ports}
 use Rattle.ptu_pool_run.specs.{declared.pool.Pool.{Pool}, Pool.{capacity_at}}
 use Rattle.ptu_pool_run.specs.Events.{PoolEvent, pool_history}
 
@@ -16,13 +16,9 @@ pub record StandFor {P : Type 0} (config : GmConfig) (kept : KeptPools P) (event
   pub each : (i : ℕ) (gm : KeptGm P) → slice_get kept.gms i ≡ Some gm →
       (gm.config ≡ config) × StandsFor (capacity_at kept.pools i) gm (pool_history config kept.pools i events)
 
--- the ports of a grandmaster, in order of index
-abbrev pub ports_of : {P : Type 0} → KeptGm P → List P
-ports_of gm = gm.s0.port ∷ gm.s1.port ∷ gm.s2.port ∷ gm.s3.port ∷ gm.reply ∷ []
-
 -- the ports of all, in order
 abbrev pub ports_of_all : {P : Type 0} → List (KeptGm P) → List P
-ports_of_all gms = flat_map ports_of gms
+ports_of_all gms = flat_map five_ports gms
 
 -- the grandmaster of the pool at this place has changed so, and every other one is as it was
 pub record ChangesOne {P : Type 0} (place : ℕ) (Change : KeptGm P → KeptGm P → Type 0) (old new : KeptPools P) : Type 0 where

@@ -1,5 +1,6 @@
 -- The decisions on a REQUEST and a CANCEL, each read by its form.
 use Rattle.std.proofs.Common.{◌≡◌, ℕ, Bool, true, false, ◌&&◌, List, [], ◌∷◌, codes, Some, None, ℤ, refl}
+use Rattle.std.proofs.Math.Bool.{and-false}
 use Rattle.ptu_units.specs.declared.kind.Kind.{Kind}
 use Rattle.ptu_lines.specs.Words.{words_of}
 use Rattle.ptu_audit_lines.specs.declared.entry.Decision.{Decision}
@@ -227,15 +228,11 @@ nothing_read line w k a n kind at ws rw_ rk ra =
       (nothing_here line w k a n kind at ws rw_ rk ra),
     ) refl
 
-and_false : (b : Bool) → (b && false) ≡ false
-and_false true = refl
-and_false false = refl
-
 nothing_code_few : (line w c : List ℕ) (n code : ℕ)
     → words_of line ≡ w ∷ codes "nothing" ∷ c ∷ [] → any_number w ≡ Some n → any_number c ≡ Some code
     → fits (codes "NUM nothing KIND at NUM") line ≡ false
 unfolding fits is_in_place
-nothing_code_few line w c n code ws rw_ rc = rw (ws, rw_) (and_false (is_in_place (codes "KIND") c))
+nothing_code_few line w c n code ws rw_ rc = rw (ws, rw_) (and-false (is_in_place (codes "KIND") c))
 
 nothing_code_here : (line w c : List ℕ) (n code : ℕ)
     → words_of line ≡ w ∷ codes "nothing" ∷ c ∷ [] → any_number w ≡ Some n → any_number c ≡ Some code

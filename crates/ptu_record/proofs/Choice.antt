@@ -10,10 +10,10 @@ use Rattle.ptu_record.specs.Selection.{level, is_better, is_candidate, IsBest, I
 -- ---- better is a strict order in which any two places compare
 
 -- by level, then by priority, then by place
-abbrev before : ℕ → ℕ → ℕ → ℕ → ℕ → ℕ → Bool
+abbrev pub before : ℕ → ℕ → ℕ → ℕ → ℕ → ℕ → Bool
 before l p m k q n = ltb l k || (eqb l k && (ltb p q || (eqb p q && ltb m n)))
 
-before-self : (l p m : ℕ) → before l p m l p m ≡ false
+pub before-self : (l p m : ℕ) → before l p m l p m ≡ false
 before-self l p m = grind (arith, nat_tests)
 
 before-total : (l p m k q n : ℕ) → before l p m k q n ≡ false → before k q n l p m ≡ false → m ≡ n

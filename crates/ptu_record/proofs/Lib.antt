@@ -9,3 +9,4 @@ pub mod Requests
 pub mod KindStates
 pub mod StepParts
 pub mod OwnParts
+pub mod Places

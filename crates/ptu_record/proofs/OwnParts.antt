@@ -2,6 +2,7 @@
 use Rattle.std.proofs.Common.{◌≡◌, ◌≢◌, ℕ, zero, suc, ◌+◌, ◌-◌, ◌%◌, ◌<◌, ◌≤◌, Bool, true, false, cond, List, [], ◌∷◌, ◌++◌, map, count_by, Some, length, refl, ap, ap₂, sym, subst, ◌∙◌, arith, eqb, inl, inr, append_assoc, zero-add, add-zero}
 use Rattle.std.proofs.lemmas.{Bool.{cases_lt, eq-eqb, ne_eqb}, Grind.{flat_map-append}}
 use Rattle.std.proofs.lemmas.{List.{append-nil}, List.Sums.{sum_by-append}}
+use Rattle.std.proofs.ByRecursion.{All-append}
 use Rattle.std.specs.List.{AllByRecursion, filter_map, flat_map, list_any, range_with_len}
 use Rattle.std.specs.Prelude.{slice_index_or}
 use Rattle.ptu_units.specs.declared.kind.Kind.{Kind}
@@ -19,7 +20,7 @@ abbrev IsOther : ℕ → Entry → Type 0
 IsOther m e = concerns m e ≡ false
 
 -- a reply enters nothing
-reply_none : (x m number : ℕ) (codes : List ℕ) → flat_map (sending_entries x) (one_reply m number codes) ≡ []
+pub reply_none : (x m number : ℕ) (codes : List ℕ) → flat_map (sending_entries x) (one_reply m number codes) ≡ []
 reply_none x m number [] = refl
 reply_none x m number (code ∷ codes) = refl
 
@@ -131,14 +132,10 @@ IsOwn m e = concerns m e ≡ true
 self_own : (m : ℕ) → eqb m m ≡ true
 self_own m = eq-eqb m m refl
 
-all_append : (P : Entry → Type 0) (es fs : Record) → AllByRecursion P es → AllByRecursion P fs → AllByRecursion P (es ++ fs)
-all_append P [] fs f g = g
-all_append P (e ∷ es) fs f g = (f.0, all_append P es fs f.1 g)
-
 requests_own : (x m number : ℕ) (ks : List Kind) → AllByRecursion (IsOwn m) (flat_map (sending_entries x) (one_signaling (Requests m number) ks))
 requests_own x m number [] = tt
 requests_own x m number (k ∷ ks) =
-    all_append (IsOwn m) (Signalled x m ∷ map (Asked x m) (k ∷ ks)) [] (self_own m, asked_all (IsOwn m) x m (λ j. self_own m) (k ∷ ks)) tt
+    All-append (IsOwn m) (Signalled x m ∷ map (Asked x m) (k ∷ ks)) [] (self_own m, asked_all (IsOwn m) x m (λ j. self_own m) (k ∷ ks)) tt
 
 probe_own : (x m number : ℕ) (b : Bool) → AllByRecursion (IsOwn m) (flat_map (sending_entries x) (cond b (DelayReq m number ∷ []) []))
 probe_own x m number true = (self_own m, tt)
@@ -153,7 +150,7 @@ requests_to_own wants L x m =
     let asks = one_signaling (Requests m (signaling_number (record_of m L))) (due_kinds wants (record_of m L) x) in
     let probes = cond (is_probe_due wants (record_of m L) x) (DelayReq m (delay_req_number (record_of m L)) ∷ []) [] in
     subst (AllByRecursion (IsOwn m)) (sym (flat_map-append (sending_entries x) asks probes))
-    (all_append (IsOwn m) (flat_map (sending_entries x) asks) (flat_map (sending_entries x) probes)
+    (All-append (IsOwn m) (flat_map (sending_entries x) asks) (flat_map (sending_entries x) probes)
     (requests_own x m (signaling_number (record_of m L)) (due_kinds wants (record_of m L) x)) (probe_own x m (delay_req_number (record_of m L)) (is_probe_due wants (record_of m L) x)))
 
 pub own_tick : (setup : SlaveSetup) (assessments : List Bool) (L : Record) (t m : ℕ) → m < master_count setup → length assessments ≡ master_count setup
@@ -189,7 +186,7 @@ own_stop setup assessments L t m lt = at (event_moment L t)
 
 -- ---- numbers
 
-count_by-append : {A : Type 0} (p : A → Bool) (xs ys : List A) → count_by p (xs ++ ys) ≡ count_by p xs + count_by p ys
+pub count_by-append : {A : Type 0} (p : A → Bool) (xs ys : List A) → count_by p (xs ++ ys) ≡ count_by p xs + count_by p ys
 count_by-append p xs ys = sum_by-append (λ x. cond (p x) 1 0) xs ys
 
 count_by-one : {A : Type 0} (p : A → Bool) (x : A) (xs : List A) → count_by p (x ∷ xs) ≡ cond (p x) 1 0 + count_by p xs

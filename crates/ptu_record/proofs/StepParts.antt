@@ -1,6 +1,7 @@
 -- What a step of a slave enters: its moment, its parts, and the numbers that it takes.
 use Rattle.std.proofs.Common.{◌≡◌, ◌≢◌, ℕ, ◌≤◌, max, Bool, true, false, cond, List, [], ◌∷◌, ◌++◌, map, Option, Some, None, refl, ap, ap₂, sym, subst, ◌∙◌, arith, eqb}
 use Rattle.std.proofs.lemmas.{Bool.{false≢true}, List.{map-append}, List.Elements.{filter-append}}
+use Rattle.std.proofs.ByRecursion.{All-append}
 use Rattle.std.specs.List.{AllByRecursion, cons_option, filter_map, flat_map}
 use Rattle.std.specs.{Option.{option_map, unwrap_or}, Prelude.{◌↔◌, IsSome, MatchOption}}
 use Rattle.ptu_units.specs.declared.kind.Kind.{Kind}
@@ -14,19 +15,15 @@ use Rattle.ptu_record.proofs.{ListLaws.{maximum-append}, Others.{record_of-other
 
 -- ---- entries that all pass a test or stand at a moment
 
-all_append : (P : Entry → Type 0) (es fs : Record) → AllByRecursion P es → AllByRecursion P fs → AllByRecursion P (es ++ fs)
-all_append P [] fs f g = g
-all_append P (e ∷ es) fs f g = (f.0, all_append P es fs f.1 g)
-
 -- what all entries of a step have that its own, its judges', its sendings' and the stop's entries have
 pub all_of : (P : Entry → Type 0) (setup : SlaveSetup) (assessments : List Bool) (L : Record) (x : ℕ) (e : SlaveEvent)
     → AllByRecursion P (own_entries setup.wants x e) → AllByRecursion P (judged_entries x (judged_masters (master_count setup) e) assessments)
     → AllByRecursion P (flat_map (sending_entries x) (sendings setup L x e)) → AllByRecursion P (stop_entry x e) → P (Event x) → AllByRecursion P (entries_by setup assessments L x e)
 all_of P setup assessments L x e own judged sent stopped none =
     or_all (own_entries setup.wants x e ++ judged_entries x (judged_masters (master_count setup) e) assessments ++ flat_map (sending_entries x) (sendings setup L x e) ++ stop_entry x e)
-    (all_append P (own_entries setup.wants x e ++ judged_entries x (judged_masters (master_count setup) e) assessments ++ flat_map (sending_entries x) (sendings setup L x e)) (stop_entry x e)
-    (all_append P (own_entries setup.wants x e ++ judged_entries x (judged_masters (master_count setup) e) assessments) (flat_map (sending_entries x) (sendings setup L x e))
-    (all_append P (own_entries setup.wants x e) (judged_entries x (judged_masters (master_count setup) e) assessments) own judged) sent) stopped)
+    (All-append P (own_entries setup.wants x e ++ judged_entries x (judged_masters (master_count setup) e) assessments ++ flat_map (sending_entries x) (sendings setup L x e)) (stop_entry x e)
+    (All-append P (own_entries setup.wants x e ++ judged_entries x (judged_masters (master_count setup) e) assessments) (flat_map (sending_entries x) (sendings setup L x e))
+    (All-append P (own_entries setup.wants x e) (judged_entries x (judged_masters (master_count setup) e) assessments) own judged) sent) stopped)
   where
     or_all : (es : Record) → AllByRecursion P es → AllByRecursion P (or_event x es)
     or_all [] h = (none, tt)
@@ -82,7 +79,7 @@ own_at wants x Stop = tt
 
 sent_at : (x : ℕ) (ss : List Sending) → AllByRecursion (IsAt x) (flat_map (sending_entries x) ss)
 sent_at x [] = tt
-sent_at x (Requests m number kinds ∷ ss) = all_append (IsAt x) (sending_entries x (Requests m number kinds)) (flat_map (sending_entries x) ss) (refl, asked_all (IsAt x) x m (λ k. refl) kinds) (sent_at x ss)
+sent_at x (Requests m number kinds ∷ ss) = All-append (IsAt x) (sending_entries x (Requests m number kinds)) (flat_map (sending_entries x) ss) (refl, asked_all (IsAt x) x m (λ k. refl) kinds) (sent_at x ss)
 sent_at x (Cancels m number kinds ∷ ss) = (refl, sent_at x ss)
 sent_at x (Acknowledgements m number codes ∷ ss) = sent_at x ss
 sent_at x (DelayReq m number ∷ ss) = (refl, sent_at x ss)

@@ -3,11 +3,8 @@ use Rattle.std.proofs.Common.{◌≡◌, ℕ, ◌+◌, ◌-◌, ◌≤◌, List,
 use Rattle.std.specs.List.{slice_range}
 use Rattle.std.proofs.lemmas.List.{drop-append-le, take-append-le, map-append}
 use Rattle.std.proofs.Math.Seq.{drop-append_seam, take-length}
+use Rattle.ptu_outside.proofs.Slots.{range-append}
 use Rattle.ptu_report.specs.{declared.span.Span.{Span}, Spans.{AreWithin, text_in, texts_in}}
-
-range-append : (octets more : List ℕ) (a b : ℕ) → a ≤ b → b ≤ length octets → slice_range (octets ++ more) a b ≡ slice_range octets a b
-range-append octets more a b le within =
-    ap (take (b - a)) (drop-append-le a octets more (omega arith)) ∙ take-append-le (b - a) (drop a octets) more (rw (length-drop a octets) (omega arith))
 
 -- octets that come behind change no text
 texts-append : (octets more : List ℕ) (spans : List Span) → AreWithin octets spans → texts_in (octets ++ more) spans ≡ texts_in octets spans

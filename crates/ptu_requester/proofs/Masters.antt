@@ -18,7 +18,7 @@ concerns-entry_of n Denial at m k = refl
 concerns-entry_of n Cancel at m k = refl
 
 -- a write at one place
-slice_get-set_same : {A : Type 0} (xs : List A) (i : ℕ) (x : A) → i < length xs → slice_get (set xs i x) i ≡ Some x
+pub slice_get-set_same : {A : Type 0} (xs : List A) (i : ℕ) (x : A) → i < length xs → slice_get (set xs i x) i ≡ Some x
 slice_get-set_same [] i x within = absurd (omega arith)
 slice_get-set_same (y ∷ ys) zero x within = refl
 slice_get-set_same (y ∷ ys) (suc i) x within = slice_get-set_same ys i x (omega arith)

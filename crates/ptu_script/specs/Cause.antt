@@ -3,7 +3,7 @@ use Rattle.std.specs.Prelude.{ℕ, List, Result, Ok, Err, codes}
 use Rattle.ptu_lines.specs.Cause.{line_cause_text}
 use Rattle.ptu_lines.specs.declared.cause.LineCause.{LineCause}
 use Rattle.ptu_script.specs.declared.cause.Cause.{Cause}
-use Rattle.ptu_script.specs.declared.cause.Cause.TheVariants.{Line, Order, Node, Full, Number, Stock}
+use Rattle.ptu_script.specs.declared.cause.Cause.TheVariants.{Full, Line, Node, Number, Order, Stock}
 
 abbrev pub cause_text : Cause → List ℕ
 cause_text (Line cause) = line_cause_text cause

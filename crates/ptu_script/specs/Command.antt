@@ -1,7 +1,7 @@
 -- What a line of a script commands, or why it is refused. The forms are the project's own choice.
 use Rattle.std.specs.Prelude.{ℕ, ◌-◌, ◌^◌, Bool, true, ◌==◌, if◌then◌else◌, List, [], ◌∷◌, length, Option, Some, None, Result, Ok}
 use Rattle.ptu_units.specs.declared.kind.Kind.TheVariants as kinds
-use Rattle.ptu_lines.specs.Words.{words_of, ip_of, clock_of, octets_of}
+use Rattle.ptu_lines.specs.Words.{clock_of, ip_of, octets_of, words_of}
 use Rattle.ptu_lines.specs.declared.cause.LineCause.{LineCause}
 use Rattle.ptu_script.specs.{Cause.{named}, declared.cause.Cause.{Cause}}
 use Rattle.ptu_script.specs.declared.command.GrandmasterSetup.{GrandmasterSetup}

@@ -1,9 +1,9 @@
 -- The words that a line may begin with, and how many words it has.
 use Rattle.std.specs.Prelude.{ℕ, ◌==◌, if◌then◌else◌, Bool, List, [], ◌∷◌, length, Option, Some, None, Result, Ok, Err, find, codes, unwrap_or}
 use Rattle.std.specs.{List.{list_any}, Str.{bytes_eq}}
-use Rattle.ptu_lines.specs.Words.{words_of, word_of}
+use Rattle.ptu_lines.specs.Words.{word_of, words_of}
 use Rattle.ptu_lines.specs.declared.cause.LineCause.{LineCause}
-use Rattle.ptu_lines.specs.declared.cause.LineCause.TheVariants.{Word, Count}
+use Rattle.ptu_lines.specs.declared.cause.LineCause.TheVariants.{Count, Word}
 use Rattle.ptu_script.specs.declared.verb.Verb.{Verb}
 use Rattle.ptu_script.specs.declared.verb.Verb.TheVariants.{Gm, Slave, Master, Rx, Deliver, Turn, Tick, Flag, Judge, Stop, Class, Capacity}
 

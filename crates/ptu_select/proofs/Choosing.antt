@@ -8,7 +8,7 @@ use Rattle.std.specs.Prelude.{slice_index}
 use Rattle.ptu_record.specs.{declared.quality.Quality.{Quality}, Quality.{is_usable, rank_of}}
 use Rattle.ptu_record.specs.{Record.{Record, record_of}, SignalFails.{Timeouts}}
 use Rattle.ptu_record.specs.Selection.{IsBest, IsSelected, is_better, is_candidate, level, selected_master}
-use Rattle.ptu_record.proofs.Choice.{one_choice, selected_is}
+use Rattle.ptu_record.proofs.Choice.{before, before-self, one_choice, selected_is}
 use Rattle.ptu_select.specs.declared.state.WatchState.{WatchState}
 use Rattle.ptu_select.specs.WatchState.{is_eligible_state, state_at, state_of}
 use Rattle.ptu_select.proofs.Watching.{state_of-is}
@@ -19,12 +19,6 @@ use Rattle.ptu_select.specs.{Choice.{Stands}, Selecting.{SelectsBy}}
 use Rattle.ptu_select.specs.declared.choice.Choice.{Choice}
 
 -- ---- better is an order of three numbers
-
-abbrev before : ℕ → ℕ → ℕ → ℕ → ℕ → ℕ → Bool
-before l p m k q n = ltb l k || (eqb l k && (ltb p q || (eqb p q && ltb m n)))
-
-before-self : (l p m : ℕ) → before l p m l p m ≡ false
-before-self l p m = grind (arith, nat_tests)
 
 -- what is better than one that no less good one is over is not beaten by it either
 before-over : (l p m k q n j r o : ℕ) → before l p m k q n ≡ true → before l p m j r o ≡ false → before k q n j r o ≡ false

@@ -14,18 +14,16 @@ use Rattle.ptu_shard.specs.{Queue.{HasEnds, end_entry}, Row.{is_row_of, lease_of
 use Rattle.ptu_shard.proofs.RowLists.{Differ}
 use Rattle.ptu_shard.proofs.Members.{other_rows, own_lease, same_rows, without_other}
 use Rattle.ptu_shard.proofs.Sorting.{distinct_permuted}
-
-abbrev is_live : ℕ → Row → Bool
-is_live n row = ltb n row.lease.until
+use Rattle.ptu_shard.proofs.Standing.{is_live_row}
 
 -- where all ends are later, all rows are live
 pub all_live : (n : ℕ) (rows : List Row) (entries : List Entry) → HasEnds rows entries → All (λ e. n < e.moment) entries → filter (λ row. ltb n row.lease.until) rows ≡ rows
 all_live n rows entries has later = whole rows (λ z h. All-contains (λ e. n < e.moment) entries (end_entry z) later (has z h))
   where
-    whole : (some : List Row) → ((z : Row) → Contains some z → n < z.lease.until) → filter (is_live n) some ≡ some
+    whole : (some : List Row) → ((z : Row) → Contains some z → n < z.lease.until) → filter (is_live_row n) some ≡ some
     whole [] live = refl
     whole (r ∷ some) live =
-        ap (λ b. cond b (r ∷ filter (is_live n) some) (filter (is_live n) some)) (lt-ltb n r.lease.until (live r (Contains-first r some)))
+        ap (λ b. cond b (r ∷ filter (is_live_row n) some) (filter (is_live_row n) some)) (lt-ltb n r.lease.until (live r (Contains-first r some)))
         ∙ ap (λ l. r ∷ l) (whole some (λ z h. live z (Contains-later r some z h)))
 
 -- an entry that is no row's may go
@@ -56,15 +54,15 @@ module _ (n : ℕ) (c : Client) (k : Kind) (rows new : List Row) (pairs : AllPai
 
   pub live_same : (lease : Lease) → lease_of c k rows ≡ Some lease → lease.until ≤ n → IsPermutation (filter (λ row. ltb n row.lease.until) rows) (filter (λ row. ltb n row.lease.until) new)
   live_same lease is over =
-      same_rows (filter (is_live n) rows) (filter (is_live n) new) (AllPairs-filter Differ (is_live n) rows pairs)
-      (AllPairs-filter Differ (is_live n) new (distinct_permuted (without_row c k rows) new dropped (AllPairs-filter Differ (λ row. not (is_row_of c k row)) rows pairs)))
+      same_rows (filter (is_live_row n) rows) (filter (is_live_row n) new) (AllPairs-filter Differ (is_live_row n) rows pairs)
+      (AllPairs-filter Differ (is_live_row n) new (distinct_permuted (without_row c k rows) new dropped (AllPairs-filter Differ (λ row. not (is_row_of c k row)) rows pairs)))
       (record {
-        to = λ z h. let both = Contains-from_filter (is_live n) rows z h in
-            Contains-filter (is_live n) new z (Contains-permutation (without_row c k rows) new z dropped (without_other c k rows z both.0 (other z both.0 both.1))) both.1;
-        from = λ z h. let both = Contains-from_filter (is_live n) new z h in Contains-filter (is_live n) rows z (from_new z both.0).0 both.1;
+        to = λ z h. let both = Contains-from_filter (is_live_row n) rows z h in
+            Contains-filter (is_live_row n) new z (Contains-permutation (without_row c k rows) new z dropped (without_other c k rows z both.0 (other z both.0 both.1))) both.1;
+        from = λ z h. let both = Contains-from_filter (is_live_row n) new z h in Contains-filter (is_live_row n) rows z (from_new z both.0).0 both.1;
       })
     where
-      other : (z : Row) → Contains rows z → is_live n z ≡ true → is_row_of c k z ≡ false
+      other : (z : Row) → Contains rows z → is_live_row n z ≡ true → is_row_of c k z ≡ false
       other z h live = false_from_ne_true (is_row_of c k z) (λ own.
           let same = same_lease-true c k z.client z.kind own in
           let e : Some z.lease ≡ Some lease = sym (own_lease rows (Apart-from_pairs Differ rows pairs) z h) ∙ sym (ap₂ (λ d i. lease_of d i rows) same.0 same.1) ∙ is in

@@ -2,6 +2,7 @@
 use Rattle.std.proofs.Common.{◌≡◌, ◌∙◌, inr, ℕ, ◌≤◌, ◌++◌, List, [], ◌∷◌, Bool, true, false, ◌&&◌, cond, ltb, leb, refl, sym, ap, ap₂, subst, arith, append_assoc, Option, Some, None}
 use Rattle.std.specs.{List.{Contains}, Option.{option_map_or}}
 use Rattle.std.proofs.lemmas.Bool.{leb-true, ltb-true}
+use Rattle.std.proofs.Math.Bool.{and-true, and-false}
 use Rattle.ptu_units.specs.declared.kind.Kind.TheVariants.{DelayResp}
 use Rattle.ptu_units.specs.{declared.client.Client.{Client}, Client.{table_of}}
 use Rattle.ptu_history.specs.{History.{Record, Looked, Sent}, Moments.{book_part, greatest_by}}
@@ -66,14 +67,6 @@ module _ (book j moment : ℕ) (history : List Record) (rows : List Row) (s : St
       looked : StandsAt book j rows x (history ++ Looked x j ∷ [])
       looked = stands_looked book j moment history rows s x reached
 
-      and_true : (b : Bool) → (b && true) ≡ b
-      and_true true = refl
-      and_true false = refl
-
-      and_false : (b : Bool) → (b && false) ≡ false
-      and_false true = refl
-      and_false false = refl
-
       no_records : (b : Bool) → answer_records x c (cond b (step.TooSoon (earliest history c DelayResp)) step.NoGrant) ≡ []
       no_records true = refl
       no_records false = refl
@@ -84,18 +77,12 @@ module _ (book j moment : ℕ) (history : List Record) (rows : List Row) (s : St
       at true e =
           subst (λ r. StandsAt book j r x (history ++ Looked x j ∷ Sent x c DelayResp ∷ []))
           (spent_agree (is_row_of c DelayResp) (is_answering_row x c) x rows
-          (λ row h. sym (answering_is row h ∙ ap (λ b. is_row_of c DelayResp row && b) e ∙ and_true (is_row_of c DelayResp row))))
+          (λ row h. sym (answering_is row h ∙ ap (λ b. is_row_of c DelayResp row && b) e ∙ and-true (is_row_of c DelayResp row))))
           (subst (λ h. StandsAt book j (spent_where (is_row_of c DelayResp) x rows) x h) (append_assoc history (Looked x j ∷ []) (Sent x c DelayResp ∷ []))
           (stands_sent book j x (history ++ Looked x j ∷ []) rows looked x c DelayResp (omega arith)))
       at false e =
           subst (λ rs. StandsAt book j (spent_where (is_answering_row x c) x rows) x (history ++ Looked x j ∷ rs)) (sym (no_records (live history x c DelayResp)))
           (subst (λ r. StandsAt book j r x (history ++ Looked x j ∷ []))
           (sym (spent_none x rows) ∙ spent_agree (λ row. false) (is_answering_row x c) x rows
-          (λ row h. sym (answering_is row h ∙ ap (λ b. is_row_of c DelayResp row && b) e ∙ and_false (is_row_of c DelayResp row))))
+          (λ row h. sym (answering_is row h ∙ ap (λ b. is_row_of c DelayResp row && b) e ∙ and-false (is_row_of c DelayResp row))))
           looked)
-
--- none of its records counts for the book
-pub answer_looked : (x : ℕ) (c : Client) (answer : Answer) → greatest_by book_part (Looked x (table_of c) ∷ answer_records x c answer) ≡ 0
-answer_looked x c step.Answered = refl
-answer_looked x c step.NoGrant = refl
-answer_looked x c (step.TooSoon earliest) = refl

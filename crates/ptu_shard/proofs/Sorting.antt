@@ -13,6 +13,7 @@ use Rattle.ptu_history.proofs.Unique.{Apart, Apart-from_pairs, Contains-first, C
 use Rattle.ptu_shard.specs.{declared.lease.Row.{Row}, Row.{is_row_of}, Turn.{row_cmp}}
 use Rattle.ptu_shard.proofs.RowLists.{Differ}
 use Rattle.ptu_history.proofs.Orders.{nat_tie, then_parts}
+use Rattle.ptu_history.proofs.Order.{client_cmp-total, kind_cmp-total}
 
 -- how many rows there are of a client and kind
 abbrev copies : Client → Kind → List Row → ℕ
@@ -69,12 +70,6 @@ distinct_permuted xs ys h pairs =
     pairs_from_Apart Differ ys (apart_from_once ys (λ c k.
     let one : copies c k ys ≡ copies c k xs = sum_by-IsPermutation (λ row. cond (is_row_of c k row) 1 0) xs ys h in
     omega (arith, once_from_apart xs (Apart-from_pairs Differ xs pairs) c k)))
-
-client_cmp-total : IsTotalOrder client_cmp
-client_cmp-total = then_total (on_total (λ (c : Client). c.ip) nat_cmp_total) (then_total (on_total (λ (c : Client). c.clock) nat_cmp_total) (on_total (λ (c : Client). c.port) nat_cmp_total))
-
-kind_cmp-total : IsTotalOrder kind_cmp
-kind_cmp-total = on_total kind_place nat_cmp_total
 
 pub row_cmp-total : IsTotalOrder row_cmp
 row_cmp-total =

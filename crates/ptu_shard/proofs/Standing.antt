@@ -45,28 +45,29 @@ not_above n u never = at (leb u n) refl
     at true e = grind arith
     at false e = absurd (never (grind arith))
 
-abbrev is_live : ℕ → Row → Bool
-is_live n row = ltb n row.lease.until
+-- the row is live at the moment
+abbrev pub is_live_row : ℕ → Row → Bool
+is_live_row n row = ltb n row.lease.until
 
 -- rows that are over at a moment may go, beside a book that has reached it
 pub stands_swept : (book j moment n : ℕ) (history : List Record) (rows : List Row) → StandsAt book j rows moment history →
     StandsAt (max book n) j (filter (λ row. ltb n row.lease.until) rows) (max moment n) history
 stands_swept book j moment n history rows s = record {
-  kept = λ row h. s.kept row (Contains-from_filter (is_live n) rows row h).0;
+  kept = λ row h. s.kept row (Contains-from_filter (is_live_row n) rows row h).0;
   over = λ c k m l u own last none. over c k m l u own last none (lease_cases (lease_of c k rows));
   least = let le : table_moment history j ≤ moment = s.least in omega arith;
   greatest = let le : moment ≤ max (table_moment history j) book = s.greatest in omega arith;
 }
   where
     over : (c : Client) (k : Kind) (m : ℕ) (l : ℤ) (u : ℕ) → table_of c ≡ j → last_decision history c k ≡ Some (Granted m c k l u) →
-        lease_of c k (filter (is_live n) rows) ≡ None → (lease_of c k rows ≡ None) ⊎ ((lease : Lease) × (lease_of c k rows ≡ Some lease)) → (u ≤ max book n) × (u ≤ max moment n)
+        lease_of c k (filter (is_live_row n) rows) ≡ None → (lease_of c k rows ≡ None) ⊎ ((lease : Lease) × (lease_of c k rows ≡ Some lease)) → (u ≤ max book n) × (u ≤ max moment n)
     over c k m l u own last none (inl e) =
         let h : (u ≤ book) × (u ≤ moment) = s.over c k m l u own last e in (omega arith, omega arith)
     over c k m l u own last none (inr (lease, e)) =
         let p : IsPresent c k rows lease = present_some c k rows lease e in
         let has : (p.row.lease.start ≡ m) × (p.row.lease.log ≡ l) × (p.row.lease.until ≡ u) = granted_row book j moment history rows s c k m l u last p.row p.contained p.own in
         let gone : p.row.lease.until ≤ n = not_above n p.row.lease.until (λ yes.
-        true≢false (sym p.own ∙ missing_none c k (filter (is_live n) rows) none p.row (Contains-filter (is_live n) rows p.row p.contained yes))) in
+        true≢false (sym p.own ∙ missing_none c k (filter (is_live_row n) rows) none p.row (Contains-filter (is_live_row n) rows p.row p.contained yes))) in
         let is : p.row.lease.until ≡ u = has.2 in
         (omega arith, omega arith)
 

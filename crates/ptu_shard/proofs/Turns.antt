@@ -18,6 +18,8 @@ use Rattle.ptu_history.proofs.Order.{IsAsymmetric-total, IsPermutation-in_order,
 use Rattle.ptu_history.proofs.Orders.{due_grants-distinct, due_grants-members, due_grants-only}
 use Rattle.ptu_history.proofs.Standing.{Contains-filter, standing-last}
 use Rattle.ptu_history.proofs.Unique.{Apart, Apart-from_pairs, Contains-cons_cases, Contains-first, Contains-from_filter, Contains-later, pairs_from_Apart}
+use Rattle.ptu_history.proofs.Members as grants
+use Rattle.ptu_history.proofs.Members.{same_test}
 use Rattle.ptu_shard.specs.declared.lease.{Lease.{Lease}, Row.{Row}}
 use Rattle.ptu_shard.specs.{Row.{is_row_of, lease_of}, Table.{StandsAt}}
 use Rattle.ptu_shard.specs.Turn.{due_messages, due_rows, is_due_row, is_lawful_row, message_of_row, row_cmp, spent_where}
@@ -58,18 +60,10 @@ grant_is : (n n' : ℕ) (c c' : Client) (k k' : Kind) (l l' : ℤ) (u u' : ℕ) 
     ◌≡◌ {A = Grant} (record { start = n; client = c'; kind = k'; log = l; until = u }) (record { start = n'; client = c; kind = k; log = l'; until = u' })
 grant_is n n' c c' k k' l l' u u' e f h i m = cc
 
-same_bool : (a b : Bool) → (a ≡ true → b ≡ true) → (b ≡ true → a ≡ true) → a ≡ b
-same_bool true b f g = sym (f refl)
-same_bool false true f g = g refl
-same_bool false false f g = refl
-
-abbrev Differ_grants : Grant → Grant → Type 0
-Differ_grants a b = same_lease a.client a.kind b.client b.kind ≡ false
-
-apart_map : (rows : List Row) → Apart Differ rows → Apart Differ_grants (map grant_of rows)
+apart_map : (rows : List Row) → Apart Differ rows → Apart grants.Differ (map grant_of rows)
 apart_map [] apart = tt
 apart_map (r ∷ rows) apart = (
-  λ g h. let i : IsImage grant_of rows g = image grant_of rows g h in subst (λ g. Differ_grants (grant_of r) g) i.is (apart.0 i.from i.contained),
+  λ g h. let i : IsImage grant_of rows g = image grant_of rows g h in subst (λ g. grants.Differ (grant_of r) g) i.is (apart.0 i.from i.contained),
   apart_map rows apart.1,
 )
 
@@ -225,7 +219,7 @@ module _ (book j moment : ℕ) (history : List Record) (rows : List Row) (s : St
         (IsSorted-in_order row_cmp (IsAsymmetric-total row_cmp row_cmp-total) (filter (is_due_row x) rows))
 
     due_distinct : AllPairs Differ rows → IsDistinctByLease (map grant_of (due_rows x rows))
-    due_distinct pairs = pairs_from_Apart Differ_grants (map grant_of (due_rows x rows))
+    due_distinct pairs = pairs_from_Apart grants.Differ (map grant_of (due_rows x rows))
         (apart_map (due_rows x rows) (Apart-from_pairs Differ (due_rows x rows)
         (distinct_permuted (filter (is_due_row x) rows) (due_rows x rows) (IsPermutation-in_order row_cmp (filter (is_due_row x) rows)) (AllPairs-filter Differ (is_due_row x) rows pairs))))
 
@@ -241,7 +235,7 @@ module _ (book j moment : ℕ) (history : List Record) (rows : List Row) (s : St
 
     -- the rows of which a turn spends
     among_due : (row : Row) → Contains rows row → is_among (due_grants history x j) row ≡ is_due_row x row
-    among_due row h = same_bool (is_among (due_grants history x j) row) (is_due_row x row) to from
+    among_due row h = same_test (is_among (due_grants history x j) row) (is_due_row x row) to from
       where
         to : is_among (due_grants history x j) row ≡ true → is_due_row x row ≡ true
         to holds =
@@ -261,7 +255,7 @@ module _ (book j moment : ℕ) (history : List Record) (rows : List Row) (s : St
     pub stands_turned : StandsAt book j (spent_where (is_due_row x) x rows) x (history ++ Looked x j ∷ map (sent_record x) (due_grants history x j))
     stands_turned =
         subst (λ rows. StandsAt book j rows x (history ++ Looked x j ∷ map (sent_record x) (due_grants history x j)))
-        (spent_each-among x (due_grants history x j) rows (Apart-from_pairs Differ_grants (due_grants history x j) (due_grants-distinct history x j))
+        (spent_each-among x (due_grants history x j) rows (Apart-from_pairs grants.Differ (due_grants history x j) (due_grants-distinct history x j))
         ∙ spent_agree (is_among (due_grants history x j)) (is_due_row x) x rows among_due)
         (subst (λ h. StandsAt book j (spent_each x (due_grants history x j) rows) x h)
         (append_assoc history (Looked x j ∷ []) (map (sent_record x) (due_grants history x j)))

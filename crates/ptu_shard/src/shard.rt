@@ -5,7 +5,7 @@ ghost use Rattle.std.specs.Prelude.{◌≡◌, ◌<◌, ◌≤◌, ◌+◌, ◌*
 ghost use Rattle.std.specs.{Borrow.{sem}, List.{filter}, List.Sorted.{IsPermutation}};
 ghost use Rattle.ptu_units.specs.{Log.{rate_of}, declared.kind.Kind.TheVariants.{DelayResp}};
 ghost use Rattle.ptu_units.specs.Client.{table_of};
-ghost use Rattle.ptu_history.specs.History.{Record, Granted, Ended, Shed};
+ghost use Rattle.ptu_history.specs.History.{Ended, Granted, Record, Shed};
 ghost use Rattle.ptu_history.specs.{Verdict.{Config}, Events.{DelayReq, Turn}};
 ghost use Rattle.ptu_history.specs.{Step.{delay_answer, step}, Turns.{due_grants, message_of}};
 ghost use Rattle.ptu_shard.specs.Answered.{answer_by, failed_by, met_by, moment_of_answer, responses, sent_by};

@@ -22,7 +22,7 @@ use Rattle.ptu_history.proofs.{Lists.{greatest_by-push}, Order.{IsPermutation-in
 use Rattle.ptu_history.proofs.Moments.{book_moment-none, greatest-sent}
 use Rattle.ptu_history.proofs.Strangers.{lawful-push, sequence_number-push}
 use Rattle.ptu_laws.specs.Sound.{last_sent, sent_part}
-use Rattle.ptu_laws.proofs.{Followed.{AllMayFollow as AllFollow, may-answer}, Stands.{greatest-le}}
+use Rattle.ptu_laws.proofs.{Followed.{AllMayFollow as AllFollow, may-answer}, Stands.{greatest-le, last_sent-table}}
 use Rattle.ptu_profile.specs.declared.grandmaster.GmConfig.{GmConfig}
 use Rattle.ptu_shard.specs.{Answered.{responses}, Messages.{departure_of, response_of}, Table.{Kept, StandsBeside, StandsFor}, Turn.{due_messages}}
 use Rattle.ptu_admit.specs.Alone.{AreDecisionsFrom, GoesOnAlone, StandsAlone}
@@ -99,10 +99,6 @@ sent_part-le c k (Sent x d j) = at (same_lease c k d j) refl
         omega arith
     at false own = omega arith
 sent_part-le c k _ = omega arith
-
-last_sent-table : (history : List Record) (c : Client) (k : Kind) → last_sent history c k ≤ table_moment history (table_of c)
-unfolding last_sent table_moment
-last_sent-table history c k = greatest-le (sent_part c k) (table_part (table_of c)) (sent_part-le c k) history
 
 -- no message of the table's clients among the records is after this moment
 abbrev AreSentBy : ℕ → ℕ → List Record → Type 0

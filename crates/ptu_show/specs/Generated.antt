@@ -12,6 +12,7 @@ use Rattle.ptu_outside.specs.Handing.{joined}
 use Rattle.ptu_report.specs.declared.fault.RunFault.{RunFault}
 use Rattle.ptu_report.specs.declared.fault.RunFault.TheVariants as faults
 use Rattle.ptu_script.specs.declared.cause.Cause.{Cause}
+use Rattle.ptu_profile.specs.Target.{all_ones}
 use Rattle.ptu_show.specs.declared.generating.LoadLine.{LoadLine}
 use Rattle.ptu_show.specs.declared.generating.LoadLine.TheVariants.{Grandmaster, Client, Turn}
 
@@ -40,10 +41,6 @@ log_of_client i = log_by (x_at (suc i))
 abbrev pub client_identity : ℕ → PortIdentity
 client_identity i = record { clock = 0x0b00000000000000 + i; port = 1 }
 
--- every port of every clock (IEEE 1588-2019 clause 13.12)
-abbrev pub all_ports : PortIdentity
-all_ports = record { clock = 0xffffffffffffffff; port = 0xffff }
-
 -- the header of a Signaling of client i, in domain 4 and with sequenceId 0
 abbrev pub client_header : ℕ → Header
 client_header i = record {
@@ -58,7 +55,7 @@ client_header i = record {
 -- client i asks for Sync for 300 s at this logarithm
 unfoldable pub request_of : ℕ → ℤ → List ℕ
 request_of i log =
-    sent_message (signaling (client_header i) all_ports
+    sent_message (signaling (client_header i) all_ones
     (Request (record { code = 0; log = log; seconds = 300 }) ∷ []))
 
 -- ---- the lines

@@ -9,7 +9,7 @@ use Rattle.ptu_report.specs.declared.ending.Ending.TheVariants as endings
 use Rattle.ptu_report.specs.Reported.{HasWritten}
 use Rattle.ptu_report.specs.Rules.{Rules, Outcome, Goes, Refuses, ending_of, texts_of}
 use Rattle.ptu_script.specs.declared.cause.Cause.{Cause}
-use Rattle.ptu_lines.specs.declared.cause.LineCause.TheVariants.{Size, Long, Text, Field}
+use Rattle.ptu_lines.specs.declared.cause.LineCause.TheVariants.{Field, Long, Size, Text}
 use Rattle.ptu_script.specs.declared.cause.Cause.TheVariants.{Line}
 use Rattle.ptu_script.specs.Cause.{cause_of_line, cause_text}
 use Rattle.ptu_show.specs.{Datagram.{datagram_text}, Reading.{datagram_in}}

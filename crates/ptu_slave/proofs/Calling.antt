@@ -3,9 +3,8 @@ use Rattle.std.proofs.Common.{◌≡◌, ◌≢◌, ℕ, zero, suc, ◌+◌, ◌
 use Rattle.std.proofs.lemmas.{Bool.{eqb-true, eq-eqb}, List.{get_or-set_same, length-set}}
 use Rattle.std.proofs.lemmas.Option.{slice_get-get_or}
 use Rattle.std.specs.List.{slice_get}
-use Rattle.ptu_requester.proofs.Masters.{slice_get-set_other}
+use Rattle.ptu_requester.proofs.Masters.{slice_get-set_other, slice_get-set_same}
 use Rattle.ptu_judges.specs.Calls.{OfAll, OfAnswer, OfOne}
-use Rattle.ptu_slave.proofs.Masters.{slice_get-set_same}
 
 -- it begins at a judge that is known under another name
 pub along_at : {X : Type 0} {F : X → Type 0} (R : (i : X) → F i → F i → Type 0) (p q : (i : X) × F i) → p ≡ q → (y : F p.0) → R p.0 p.1 y

@@ -3,6 +3,7 @@ use Rattle.std.proofs.Common.{◌≡◌, ℕ, ◌+◌, ◌%◌, Bool, true, fals
 use Rattle.std.proofs.lemmas.{List.{append-nil}, Grind.{flat_map-append}}
 use Rattle.std.proofs.lemmas.Option.{same_Some, slice_get_read}
 use Rattle.std.proofs.lemmas.List.Elements.{recursion_from_All}
+use Rattle.std.proofs.ByRecursion.{All-append}
 use Rattle.std.specs.List.{AllByRecursion, cons_option, filter_map, flat_map, slice_get}
 use Rattle.std.specs.Option.{option_map, option_to_list}
 use Rattle.ptu_units.specs.declared.kind.{Kind.{Kind}, Kind.TheVariants.{Announce, Sync, DelayResp}}
@@ -20,7 +21,7 @@ use Rattle.ptu_slave.specs.Kept.{CountFor, Kept}
 use Rattle.ptu_slave_messages.specs.declared.signal.Signal.{Signal}
 use Rattle.ptu_slave_messages.specs.declared.signal.Signal.TheVariants.{Grant, Denial, Cancel, Ack}
 use Rattle.ptu_slave.specs.{Parts.{heard_entry}, Standing.{Asks, Each}}
-use Rattle.ptu_slave.proofs.{Masters.{IsOf, all_append, each_own}, Quiet.{Uncounted, counts_one}}
+use Rattle.ptu_slave.proofs.{Masters.{IsOf, each_own}, Quiet.{Uncounted, counts_one}}
 
 -- one kind after the other
 three : (f : Kind → Entry) (L : Record) (a s d : Bool)
@@ -118,7 +119,7 @@ module _ (old new : Kept) (x m : ℕ) (c₀ c₂ : Counters) where
   asks_planned L ks b c₁ within is are signalled probed asked h = record {
     requester = subst (StandsFor new.requester) (joined L)
         (stands_silent new.requester ((L ++ S) ++ A) P (silent_probed b) (asked (L ++ S) (stands_silent old.requester L S (silent_signalled (are_some ks)) h.requester)));
-    counters = replaced L ((S ++ A) ++ P) within are (all_append (IsOf m) (S ++ A) P (all_append (IsOf m) S A (own_signalled x m (are_some ks)) (own_asked x m ks)) (own_probed x m b))
+    counters = replaced L ((S ++ A) ++ P) within are (All-append (IsOf m) (S ++ A) P (All-append (IsOf m) S A (own_signalled x m (are_some ks)) (own_asked x m ks)) (own_probed x m b))
         (subst (CountFor c₂) (joined (record_of m L))
         (probed ((record_of m L ++ S) ++ A) m (counts_one c₁ (record_of m L ++ S) A (uncounted_asked x m ks) (signalled (record_of m L) m (own_counters L is within h.counters)))))
         h.counters;

@@ -5,17 +5,13 @@ use Rattle.std.proofs.lemmas.List.{append-nil}
 use Rattle.std.specs.List.{AllByRecursion, slice_get}
 use Rattle.ptu_record.specs.Record.{Entry, Record, record_of, concerns}
 use Rattle.ptu_record.proofs.Others.{record_of-push, record_of-others}
-use Rattle.ptu_requester.proofs.Masters.{slice_get-set_other}
+use Rattle.ptu_requester.proofs.Masters.{slice_get-set_other, slice_get-set_same}
 use Rattle.ptu_slave.specs.Standing.{Each}
 
 -- ---- entries of one master
 
 abbrev pub IsOf : ℕ → Entry → Type 0
 IsOf m e = (n : ℕ) → concerns n e ≡ eqb m n
-
-pub all_append : (P : Entry → Type 0) (es fs : Record) → AllByRecursion P es → AllByRecursion P fs → AllByRecursion P (es ++ fs)
-all_append P [] fs f g = g
-all_append P (e ∷ es) fs f g = (f.0, all_append P es fs f.1 g)
 
 pub own_of : (m : ℕ) (L E : Record) → AllByRecursion (IsOf m) E → record_of m (L ++ E) ≡ record_of m L ++ E
 own_of m L [] all = ap (record_of m) (append-nil L) ∙ sym (append-nil (record_of m L))
@@ -32,11 +28,6 @@ pub others_of : (m n : ℕ) (L E : Record) → m ≢ n → AllByRecursion (IsOf 
 others_of m n L E differ all = record_of-others n L E (other m n E differ all)
 
 -- ---- what is kept of each
-
-pub slice_get-set_same : {A : Type 0} (xs : List A) (i : ℕ) (x : A) → i < length xs → slice_get (set xs i x) i ≡ Some x
-slice_get-set_same [] i x within = absurd (omega arith)
-slice_get-set_same (y ∷ ys) zero x within = refl
-slice_get-set_same (y ∷ ys) (suc i) x within = slice_get-set_same ys i x (omega arith)
 
 -- one master's is replaced
 pub each_set : {X : Type 0} (F : ℕ → X → Record → Type 0) (xs : List X) (L E : Record) (m : ℕ) (x : X) → m < length xs

@@ -2,6 +2,7 @@
 use Rattle.std.proofs.Common.{◌≡◌, ◌≢◌, ℕ, zero, suc, ◌+◌, ◌≤◌, Bool, true, false, cond, List, [], ◌∷◌, ◌++◌, map, length, Option, Some, None, refl, ap, ap₂, sym, subst, ◌∙◌, arith, append_assoc}
 use Rattle.std.proofs.lemmas.{Bool.{ne_eqb, false≢true}, Grind.{flat_map-append}}
 use Rattle.std.proofs.lemmas.List.{append-nil, map-append}
+use Rattle.std.proofs.ByRecursion.{All-append}
 use Rattle.std.specs.List.{AllByRecursion, flat_map, range_with_len}
 use Rattle.std.specs.Option.{option_map, option_to_list}
 use Rattle.ptu_units.specs.declared.kind.Kind.{Kind}
@@ -24,7 +25,6 @@ use Rattle.ptu_slave.specs.{Kept.{Kept}, declared.ticks.Occasion.{Occasion}}
 use Rattle.ptu_slave.specs.declared.ticks.Occasion.TheVariants as occasions
 use Rattle.ptu_slave.specs.{Parts.{AllAsked, AllEnded, AllSent, Ticks, cancels_by}, Standing.{Asks}}
 use Rattle.ptu_slave.proofs.{Assessing.{places-more}, Entering.{cancel_entries}}
-use Rattle.ptu_slave.proofs.Masters.{all_append}
 
 -- ---- lists over places
 
@@ -40,7 +40,7 @@ earlier : (x m : ℕ) (f : ℕ → List Sending) → ((n : ℕ) → m ≢ n → 
 earlier x m f others a zero le = tt
 earlier x m f others a (suc n) le =
     subst (AllByRecursion (λ e. concerns m e ≡ false)) (sym (flat_map-append (sending_entries x) (f a) (flat_map f (range_with_len (a + 1) n))))
-    (all_append (λ e. concerns m e ≡ false) (flat_map (sending_entries x) (f a)) (flat_map (sending_entries x) (flat_map f (range_with_len (a + 1) n)))
+    (All-append (λ e. concerns m e ≡ false) (flat_map (sending_entries x) (f a)) (flat_map (sending_entries x) (flat_map f (range_with_len (a + 1) n)))
     (others a (λ same. absurd (omega arith))) (earlier x m f others (a + 1) n (omega arith)))
 
 own_same : (x m : ℕ) (f : ℕ → List Sending) (L : Record) → ((n : ℕ) → m ≢ n → AllByRecursion (λ e. concerns m e ≡ false) (flat_map (sending_entries x) (f n)))
@@ -207,7 +207,7 @@ pub sent_all : (P : Entry → Type 0) (x : ℕ) → ((m : ℕ) → P (Signalled 
     → (ss : List Sending) → AllByRecursion P (flat_map (sending_entries x) ss)
 sent_all P x signalled asked probed [] = tt
 sent_all P x signalled asked probed (Requests m number ks ∷ ss) =
-    all_append P (Signalled x m ∷ map (Asked x m) ks) (flat_map (sending_entries x) ss) (signalled m, asked_all P x m (asked m) ks) (sent_all P x signalled asked probed ss)
+    All-append P (Signalled x m ∷ map (Asked x m) ks) (flat_map (sending_entries x) ss) (signalled m, asked_all P x m (asked m) ks) (sent_all P x signalled asked probed ss)
 sent_all P x signalled asked probed (Cancels m number ks ∷ ss) = (signalled m, sent_all P x signalled asked probed ss)
 sent_all P x signalled asked probed (Acknowledgements m number codes ∷ ss) = sent_all P x signalled asked probed ss
 sent_all P x signalled asked probed (DelayReq m number ∷ ss) = (probed m, sent_all P x signalled asked probed ss)

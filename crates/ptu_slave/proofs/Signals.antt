@@ -12,6 +12,7 @@ use Rattle.ptu_record.specs.Tick.{is_stop, sending_entries}
 use Rattle.ptu_record.specs.Step as step
 use Rattle.ptu_record.specs.Step.{SlaveEvent, SlaveSetup, TakeSignaling, cancel_code, entries_by, grant_entry, one_reply, or_event, wanted_kind}
 use Rattle.ptu_record.proofs.StepParts.{all_of, signals_all}
+use Rattle.ptu_record.proofs.OwnParts.{reply_none}
 use Rattle.ptu_select.specs.Watched.{is_watched}
 use Rattle.ptu_judges.specs.Held.{Held}
 use Rattle.ptu_slave_messages.specs.declared.signal.Signal.{Signal}
@@ -32,11 +33,6 @@ asks_or_event kept told L (e ∷ E) x h = h
 pub none_stop : (E : Record) → AllByRecursion (λ e. is_stop e ≡ false) E → list_any is_stop E ≡ false
 none_stop [] all = refl
 none_stop (e ∷ E) all = ap (λ b. b || list_any is_stop E) all.0 ∙ none_stop E all.1
-
--- a reply enters nothing
-pub reply_none : (x m number : ℕ) (codes : List ℕ) → flat_map (sending_entries x) (one_reply m number codes) ≡ []
-reply_none x m number [] = refl
-reply_none x m number (code ∷ codes) = refl
 
 -- what is entered of a Signaling is entered of what is told of it
 entered : (x m seconds : ℕ) (k : Kind) (wants : Wants) (b : Bool) → eqb seconds 0 ≡ b → Some (grant_entry x m seconds k) ≡ heard_entry wants x m (grant_signal seconds k)

@@ -2,6 +2,7 @@
 use Rattle.std.proofs.Common.{◌≡◌, ℕ, ◌≤◌, max, Bool, true, false, ◌||◌, List, ◌++◌, map, length, Option, refl, ap, sym, subst, ◌∙◌, arith, append_assoc}
 use Rattle.std.proofs.lemmas.List.Folds.{list_any-append}
 use Rattle.std.specs.List.{list_any}
+use Rattle.std.proofs.Math.Bool.{or-false}
 use Rattle.ptu_record.specs.{declared.rule.Rule.{Rule}, Lists.{maximum}}
 use Rattle.ptu_record.specs.{Record.{Record, event_moment, moment_of, record_of}, Grants.{is_live}}
 use Rattle.ptu_record.specs.{Judges.{AreAssessments}, Tick.{is_stop}}
@@ -62,7 +63,7 @@ step_of openings old new judges news L t at e assessments h is moves still long 
       selects = whole.selects;
       judge = whole.judge;
       moment = moves.moment ∙ moment_after setup assessments L t at e same;
-      stopped = still ∙ h.stopped ∙ sym (list_any-append is_stop L E ∙ ap (λ b. list_any is_stop L || b) whole.unstopped ∙ or_false (list_any is_stop L));
+      stopped = still ∙ h.stopped ∙ sym (list_any-append is_stop L E ∙ ap (λ b. list_any is_stop L || b) whole.unstopped ∙ or-false (list_any is_stop L));
       told_all = λ going. ap (λ w. w ++ E) (h.told_all (sym still ∙ going));
       grants = subst (λ n. SameGrants n new.moment (h.told ++ E) (L ++ E)) (ap length (sym moves.masters))
           (grants_more (length old.masters) old.moment new.moment h.told L E (later t old.moment new.moment (moves.moment ∙ is)) h.grants);
@@ -84,10 +85,6 @@ step_of openings old new judges news L t at e assessments h is moves still long 
 
     whole : Entered openings old new judges news L e assessments (event_moment L t)
     whole = subst (Entered openings old new judges news L e assessments) same entered
-
-    or_false : (b : Bool) → (b || false) ≡ b
-    or_false true = refl
-    or_false false = refl
 
     later : (t m n : ℕ) → n ≡ max t m → m ≤ n
     later t m n is = omega arith

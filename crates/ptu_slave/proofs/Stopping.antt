@@ -2,6 +2,7 @@
 use Rattle.std.proofs.Common.{◌≡◌, ℕ, zero, suc, ◌+◌, ◌<◌, ◌≤◌, max, Bool, true, false, cond, ◌||◌, List, [], ◌∷◌, ◌++◌, map, length, Option, None, refl, ap, ap₂, sym, subst, ◌∙◌, arith, append_assoc}
 use Rattle.std.proofs.lemmas.{Bool.{false≢true, or_right}, List.{append-nil}}
 use Rattle.std.proofs.lemmas.List.{Elements.{filter_map-append}, Folds.{list_any-append}}
+use Rattle.std.proofs.ByRecursion.{All-append}
 use Rattle.std.specs.List.{AllByRecursion, cons_option, filter_map, flat_map, list_any, range_with_len}
 use Rattle.std.specs.Option.{unwrap_or}
 use Rattle.ptu_units.specs.declared.kind.{Kind.{Kind}, Kind.TheVariants.{Announce, Sync, DelayResp}}
@@ -17,7 +18,6 @@ use Rattle.ptu_requester.proofs.Stops.{stop_lifted}
 use Rattle.ptu_judges.specs.Held.{Held}
 use Rattle.ptu_slave.specs.{Kept.{CountFor, Kept}, Parts.{AllEnded, cancels_by}}
 use Rattle.ptu_slave.specs.Standing.{Asks, Each, SameGrants, Selects, StandsFor, Steps, setup_of}
-use Rattle.ptu_slave.proofs.Masters.{all_append}
 use Rattle.ptu_slave.proofs.Quiet.{Untold, counts_kept, judge_kept, selects_kept}
 use Rattle.ptu_slave.proofs.{Sendings.{sent_all}, Stepping.{moment_after, moment_is}}
 
@@ -94,7 +94,7 @@ module _ (openings : List (Option Rule)) (old begun ended new : Kept) (judges : 
       ∙ ap (λ w. flat_map (sending_entries at) w ++ Stopped at ∷ []) (sym stop_states)
 
   all_of_it : (P : Entry → Type 0) → ((m : ℕ) → P (Signalled at m)) → ((m : ℕ) (k : Kind) → P (Asked at m k)) → ((m : ℕ) → P (Probed at m)) → P (Stopped at) → AllByRecursion P E
-  all_of_it P signalled asked probed stopped = subst (AllByRecursion P) (sym whole) (all_append P S (Stopped at ∷ []) (sent_all P at signalled asked probed ss) (stopped, tt))
+  all_of_it P signalled asked probed stopped = subst (AllByRecursion P) (sym whole) (All-append P S (Stopped at ∷ []) (sent_all P at signalled asked probed ss) (stopped, tt))
 
   asks_ended : Asks ended (h.told ++ all_cancels (length begun.masters) h.told at) (L ++ S)
   asks_ended = all.asks h.told L asks_begun

@@ -1,6 +1,7 @@
 -- A tick of a slave.
 use Rattle.std.proofs.Common.{◌≡◌, ℕ, max, Bool, true, false, cond, List, [], ◌∷◌, ◌++◌, length, Option, refl, ap, sym, subst, ◌∙◌, append_assoc}
 use Rattle.std.proofs.lemmas.List.{append-nil}
+use Rattle.std.proofs.ByRecursion.{All-append}
 use Rattle.std.specs.List.{AllByRecursion, flat_map}
 use Rattle.ptu_record.specs.{declared.rule.Rule.{Rule}, Lists.{places}}
 use Rattle.ptu_record.specs.{Record.{Entry, Record, Event}, Judges.{AreAssessments}}
@@ -11,7 +12,6 @@ use Rattle.ptu_select.specs.Watched.{is_watched}
 use Rattle.ptu_judges.specs.Held.{Held}
 use Rattle.ptu_slave.specs.{Kept.{Kept}, Parts.{AllJudged, Ticks}}
 use Rattle.ptu_slave.specs.Standing.{Asks, Judge, Selects, StandsFor, StepsBy, setup_of}
-use Rattle.ptu_slave.proofs.Masters.{all_append}
 use Rattle.ptu_slave.proofs.Quiet.{Unasked, Untold, asks_kept, judge_kept, selects_kept}
 use Rattle.ptu_slave.proofs.{Sendings.{sent_all}, Signals.{asks_or_event, none_stop}}
 use Rattle.ptu_slave.proofs.Stepping.{Moves, step_of}
@@ -86,7 +86,7 @@ module _ (openings : List (Option Rule)) (old begun judged new : Kept) (olds new
   unstopped : AllByRecursion (λ e. is_stop e ≡ false) E
   unstopped = subst (AllByRecursion (λ e. is_stop e ≡ false)) (sym whole)
       (all_or_event (λ e. is_stop e ≡ false) (J ++ S) at refl
-      (all_append (λ e. is_stop e ≡ false) J S (judged_all (λ e. is_stop e ≡ false) at (λ m b. refl) (places (length openings)) assessments)
+      (All-append (λ e. is_stop e ≡ false) J S (judged_all (λ e. is_stop e ≡ false) at (λ m b. refl) (places (length openings)) assessments)
       (sent_all (λ e. is_stop e ≡ false) at (λ m. refl) (λ m k. refl) (λ m. refl) ss)))
 
   asks_all : (told : Record) → (old.stopped ≡ false → told ≡ L) → Asks old told L → Asks new (told ++ E) (L ++ E)

@@ -8,6 +8,7 @@ use Rattle.ptu_outside.specs.declared.arrival.Arrival.{Arrival}
 use Rattle.ptu_record.specs.{declared.rule.Rule.{Rule}, Lists.{places}}
 use Rattle.ptu_record.specs.{Record.{Record, event_moment}, Selection.{selected_master}}
 use Rattle.ptu_record.specs.Step.{ReplaceJudge, SlaveEvent, Stop, Tick, judged_masters, sendings, slave_step}
+use Rattle.ptu_record.proofs.Places.{all_places}
 use Rattle.ptu_judges.specs.Held.{Held}
 use Rattle.ptu_profile.specs.declared.slave.{Master.{Master}, SlaveConfig.{SlaveConfig}}
 use Rattle.ptu_slave_messages.specs.declared.reason.SlaveReason.{SlaveReason}
@@ -24,13 +25,6 @@ use Rattle.ptu_slave_daemon.specs.Running.{AreTimed, IsAt, PortDid, SlaveRan, Vi
 use Rattle.ptu_slave_messages.proofs.Senders.{judged_within, no_judge, taken_within}
 
 -- ---- masters
-
-places_within : (a n k : ℕ) → a + n ≤ k → AllByRecursion (λ m. m < k) (range_with_len a n)
-places_within a zero k le = tt
-places_within a (suc n) k le = (omega arith, places_within (a + 1) n k (omega arith))
-
-pub all_places : (n : ℕ) → AllByRecursion (λ m. m < n) (places n)
-all_places n = places_within 0 n n (omega arith)
 
 -- ---- the record
 

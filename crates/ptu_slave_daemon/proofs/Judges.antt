@@ -6,6 +6,7 @@ use Rattle.std.proofs.lemmas.{Bool.{false≢true}, Bool.Decides.{nat_tests}}
 use Rattle.std.proofs.{lemmas.List.{map-append, take_more}, Math.Seq.{drop-cons}}
 use Rattle.std.proofs.lemmas.List.{Kept.{AllPairs-cons}, Elements.{All-from_recursion}}
 use Rattle.std.proofs.lemmas.List.Sums.{sum_by-cons}
+use Rattle.std.proofs.lemmas.List.{length-map}
 use Rattle.ptu_record.specs.declared.rule.Rule.TheVariants.{Flag, Gap}
 use Rattle.ptu_judges.specs.Held.{HasNone, HasTaken, Held, IsFresh, fresh}
 use Rattle.ptu_config.specs.declared.master.MasterSetting.{MasterSetting}
@@ -44,10 +45,6 @@ distinct (m ∷ masters) is =
     (All-from_recursion (λ b. m.ip ≢ b.ip) (map watched_master_of masters) (none_later m.ip masters (not_true (list_any (λ other. other.ip == m.ip) masters) parts.0)))
     (distinct masters parts.1)
 
-length-same : {A B : Type 0} (f : A → B) (xs : List A) → length (map f xs) ≡ length xs
-length-same f [] = refl
-length-same f (x ∷ xs) = ap (λ n. suc n) (length-same f xs)
-
 le_is : (m n : ℕ) → nat_le m n ≡ true → m ≤ n
 le_is m n is = grind (arith, nat_tests)
 
@@ -56,7 +53,7 @@ masters_are settings is =
     let parts = and_both (nat_le 1 (length settings.masters) && nat_le (length settings.masters) 16) (are_distinct settings.masters) is in
     let many = and_both (nat_le 1 (length settings.masters)) (nat_le (length settings.masters) 16) parts.0 in
     record {
-      few = subst (λ n. n ≤ 16) (sym (length-same watched_master_of settings.masters)) (le_is (length settings.masters) 16 many.1);
+      few = subst (λ n. n ≤ 16) (sym (length-map settings.masters watched_master_of)) (le_is (length settings.masters) 16 many.1);
       distinct = distinct settings.masters parts.1;
     }
 
@@ -134,8 +131,8 @@ module _ {A : Type 0} (f : A → Held) where
   first_left : (masters : List MasterSetting) (i : ℕ) (d : MasterSetting) (flags gaps : List A) → i < length masters → Enough (drop i masters) (length flags) (length gaps)
       → Enough (get_or masters i d ∷ drop (i + 1) masters) (length (map f flags)) (length (map f gaps))
   first_left masters i d flags gaps lt enough =
-      subst (λ n. Enough (get_or masters i d ∷ drop (i + 1) masters) n (length (map f gaps))) (sym (length-same f flags))
-      (subst (λ n. Enough (get_or masters i d ∷ drop (i + 1) masters) (length flags) n) (sym (length-same f gaps))
+      subst (λ n. Enough (get_or masters i d ∷ drop (i + 1) masters) n (length (map f gaps))) (sym (length-map flags f))
+      (subst (λ n. Enough (get_or masters i d ∷ drop (i + 1) masters) (length flags) n) (sym (length-map gaps f))
       (subst (λ ms. Enough ms (length flags) (length gaps)) (drop-cons masters i d lt ∙ ap (λ n. get_or masters i d ∷ drop n masters) (sym (add-one i))) enough))
 
   pub none_missing : (masters : List MasterSetting) (i : ℕ) (d : MasterSetting) (flags gaps : List A) → i < length masters → Enough (drop i masters) (length flags) (length gaps)
@@ -146,7 +143,7 @@ module _ {A : Type 0} (f : A → Held) where
   pub enough_left : (masters : List MasterSetting) (i : ℕ) (d : MasterSetting) (flags gaps flags' gaps' : List A) (judge : A) → i < length masters → Enough (drop i masters) (length flags) (length gaps)
       → HasTaken (judge_rule_of (get_or masters i d)) (map f flags) (map f gaps) (map f flags') (map f gaps') (f judge) → Enough (drop (i + 1) masters) (length flags') (length gaps')
   enough_left masters i d flags gaps flags' gaps' judge lt enough taken =
-      subst (λ n. Enough (drop (i + 1) masters) n (length gaps')) (length-same f flags') (subst (λ n. Enough (drop (i + 1) masters) (length (map f flags')) n) (length-same f gaps')
+      subst (λ n. Enough (drop (i + 1) masters) n (length gaps')) (length-map flags' f) (subst (λ n. Enough (drop (i + 1) masters) (length (map f flags')) n) (length-map gaps' f)
       (enough_rest (get_or masters i d) (drop (i + 1) masters) (map f flags) (map f gaps) (map f flags') (map f gaps') (f judge) (first_left masters i d flags gaps lt enough) taken))
 
   pub fresh_next : (judges news : List A) (judge : A) (masters : List MasterSetting) (i : ℕ) (d : MasterSetting) → i < length masters → AreFresh judges (take i masters) → news ≡ judges ++ judge ∷ []
@@ -181,7 +178,7 @@ module _ {A : Type 0} (f : A → Held) where
 
   pub judges_many : (judges : List A) (masters : List MasterSetting) (list : List Master) → AreFresh judges masters → list ≡ map watched_master_of masters → length judges ≡ length list
   judges_many judges masters list are is =
-      sym (length-same f judges) ∙ ap length are ∙ length-same (λ m. fresh (judge_rule_of m)) masters ∙ sym (ap length is ∙ length-same watched_master_of masters)
+      sym (length-map judges f) ∙ ap length are ∙ length-map masters (λ m. fresh (judge_rule_of m)) ∙ sym (ap length is ∙ length-map masters watched_master_of)
 
   -- the slave stands for the node that the settings open
   pub opened_at : (settings : SlaveSettings) (judges : List A) (news : List Held) (kept : Kept) (list : List Master) → AreFresh judges settings.masters → news ≡ map f judges → kept.config ≡ slave_config_of settings

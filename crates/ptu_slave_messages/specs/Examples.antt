@@ -5,6 +5,7 @@ use Rattle.ptu_messages.specs.declared.header.PortIdentity.{PortIdentity}
 use Rattle.ptu_messages.specs.declared.header_fault.HeaderFault.TheVariants as headers
 use Rattle.ptu_messages.specs.declared.fault.MessageFault.TheVariants as faults
 use Rattle.ptu_messages.specs.Sent.{sent_message}
+use Rattle.ptu_messages.specs.Samples.{grandmaster}
 use Rattle.ptu_record.specs.Tick.{Acknowledgements, Cancels, DelayReq, Requests}
 use Rattle.ptu_profile.specs.declared.slave.{Master.{Master}, SlaveConfig.{SlaveConfig}}
 use Rattle.ptu_slave_messages.specs.declared.reason.SlaveReason.TheVariants as reasons
@@ -27,9 +28,6 @@ sample_slave = record {
 abbrev pub sample_masters : List Master
 sample_masters = record { ip = 0x0a000001; priority = 1 } ∷ record { ip = 0x0a000002; priority = 1 } ∷ []
 
-abbrev pub sample_grandmaster : PortIdentity
-sample_grandmaster = record { clock = 0x0a00000000000001; port = 1 }
-
 -- the octets of a header: messageType, messageLength, clock, sequenceId and controlField
 abbrev pub header_octets : ℕ → ℕ → ℕ → ℕ → ℕ → List ℕ
 header_octets message_type length clock sequence control =
@@ -47,7 +45,7 @@ DatagramsAreSent =
     ++ 0x00 ∷ 0x04 ∷ 0x00 ∷ 0x06 ∷ 0x00 ∷ 0x00 ∷ 0x00 ∷ 0x00 ∷ 0x01 ∷ 0x2c ∷ [])
     × (sent_message (message_of sample_slave all_ones (Cancels 1 0 (Sync ∷ [])))
     ≡ header_octets 12 50 0x11 0 5 ++ replicate 10 0xff ++ 0x00 ∷ 0x06 ∷ 0x00 ∷ 0x02 ∷ 0x00 ∷ 0x00 ∷ [])
-    × (sent_message (message_of sample_slave sample_grandmaster (Acknowledgements 0 7 (11 ∷ [])))
+    × (sent_message (message_of sample_slave grandmaster (Acknowledgements 0 7 (11 ∷ [])))
     ≡ header_octets 12 50 0x11 7 5 ++ 0x0a ∷ 0x00 ∷ 0x00 ∷ 0x00 ∷ 0x00 ∷ 0x00 ∷ 0x00 ∷ 0x01 ∷ 0x00 ∷ 0x01 ∷ []
     ++ 0x00 ∷ 0x07 ∷ 0x00 ∷ 0x02 ∷ 0xb0 ∷ 0x00 ∷ [])
     × (sent_message (message_of sample_slave all_ones (DelayReq 0 2)) ≡ header_octets 1 44 0x11 2 1 ++ replicate 10 0)

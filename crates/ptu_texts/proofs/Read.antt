@@ -12,7 +12,7 @@ use Rattle.hex.proofs.HexLemmas.{IsDigits-lower_digits, decode_of-encode_lower, 
 use Rattle.ptu_units.specs.Number as numbers
 use Rattle.ptu_units.proofs.BigEndian.{length-octets_of, number_at-octets_of}
 use Rattle.ptu_lines.specs.Words.{address_of, clock_of, ip_of, number_within, octets_of, within}
-use Rattle.ptu_lines.proofs.{DecimalDigits.{list_all-digits}, Numbers.{number_of-decimal}}
+use Rattle.ptu_lines.proofs.{DecimalDigits.{list_all-digits}, Numbers.{number_of-decimal, numerals}}
 use Rattle.ptu_texts.specs.Texts.{address_text, clock_text}
 use Rattle.ptu_lines.proofs.Encoded.{encode_lower-append}
 
@@ -40,9 +40,6 @@ pub split_alone : (s : ℕ) → s < 48 → (xs : List ℕ) → AreGlyphs xs → 
 split_alone s lt xs h = ap (slice_split (λ octet. octet == s)) (sym (append-nil xs)) ∙ split_before s lt xs [] [] h refl
 
 -- ---- decimals
-
-numerals : IsNumeralModel (AllDigits 10) (digits_value 10)
-numerals = record { to = λ ds h. h; from = λ ds h. h; same = λ ds h. refl }
 
 from_digits : (xs : List ℕ) → AllDigits 10 xs → AreGlyphs xs
 from_digits [] h = tt

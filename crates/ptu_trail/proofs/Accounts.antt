@@ -6,6 +6,7 @@ use Rattle.std.specs.declared.cmp.Ordering.TheVariants.{Less, Equal, Greater}
 use Rattle.std.proofs.lemmas.Bool.{and_right, eq-eqb, le-ltb, lt-leb, lt-ltb, eqb-true, ltb-true, false_from_ne_true, or_parts, true≢false, false≢true}
 use Rattle.std.proofs.lemmas.List.Elements.{All-head, All-tail}
 use Rattle.std.proofs.lemmas.List.Folds.{find-append, list_any-append}
+use Rattle.std.proofs.Math.Bool.{or-false}
 use Rattle.ptu_units.specs.declared.kind.{Kind.{Kind}, Kind.TheVariants.{Announce, Sync, DelayResp}}
 use Rattle.ptu_units.specs.declared.{client.Client.{Client}, stamp.Stamp.{Stamp}}
 use Rattle.ptu_units.specs.Client.{same_client, same_kind, same_lease}
@@ -13,7 +14,6 @@ use Rattle.ptu_history.specs.History.{Record, Granted, Short, Ended, Capacity, S
 use Rattle.ptu_history.specs.{Moments.{greatest_by}, Live.{live}, Lawful.{earliest}}
 use Rattle.ptu_history.proofs.Decisions.{live-undecided}
 use Rattle.ptu_units.proofs.Keys.{same_client-refl, same_client-true}
-use Rattle.ptu_history.proofs.Lists.{or-false}
 use Rattle.ptu_trail.specs.declared.{clients.Account.{Account}, known.Known.{Known}}
 use Rattle.ptu_trail.specs.declared.cause.NoCause.TheVariants as causes
 use Rattle.ptu_trail.specs.Clients.{IsAccount}

@@ -2,11 +2,12 @@
 use Rattle.std.proofs.Common.{◌≡◌, ◌∙◌, ℕ, ◌++◌, List, [], ◌∷◌, false, cond, eqb, Option, Some, None, refl, sym, ap, subst, append_assoc}
 use Rattle.std.proofs.lemmas.{List.{append-nil}, Bool.{true≢false}}
 use Rattle.ptu_history.specs.History.{Record, Granted, Short, Ended, Capacity, Shed, Looked, Sent}
+use Rattle.ptu_history.specs.Counts.{is_shedding}
 use Rattle.ptu_laws.specs.Sound.{sheds_at}
 use Rattle.ptu_trail.specs.declared.cause.{Fault.{Fault}, NoCause.{NoCause}}
-use Rattle.ptu_trail.specs.Faults.{IsFaultless, behind, fault_of, first_fault, is_shed_record, or_behind}
+use Rattle.ptu_trail.specs.Faults.{IsFaultless, behind, fault_of, first_fault, or_behind}
 
-behind-none : (later : Option Fault) → behind later ≡ None → later ≡ None
+pub behind-none : (later : Option Fault) → behind later ≡ None → later ≡ None
 behind-none None e = refl
 behind-none (Some fault) e = absurd cc
 
@@ -42,7 +43,7 @@ none-from opening trail f = rest-from opening trail [] trail refl f
 -- the records do not begin with a shedding
 abbrev pub IsNoShedding : List Record → Type 0
 IsNoShedding [] = Unit {0}
-IsNoShedding (r ∷ rest) = is_shed_record r ≡ false
+IsNoShedding (r ∷ rest) = is_shedding r ≡ false
 
 none-at : (x : ℕ) (ys : List Record) → IsNoShedding ys → sheds_at x ys ≡ []
 none-at x [] other = refl
@@ -83,7 +84,7 @@ none-append opening before (x ∷ xs) ys other first then =
 pub faultless-more : (opening : ℕ) (trail more : List Record) → IsFaultless opening trail → IsNoShedding more → first_fault opening trail more ≡ None → IsFaultless opening (trail ++ more)
 faultless-more opening trail more f other none = faultless-from opening (trail ++ more) (none-append opening [] trail more other (none-from opening trail f) none)
 
-pub faultless-one_more : (opening : ℕ) (trail : List Record) (r : Record) → IsFaultless opening trail → is_shed_record r ≡ false → fault_of opening trail r [] ≡ None → IsFaultless opening (trail ++ r ∷ [])
+pub faultless-one_more : (opening : ℕ) (trail : List Record) (r : Record) → IsFaultless opening trail → is_shedding r ≡ false → fault_of opening trail r [] ≡ None → IsFaultless opening (trail ++ r ∷ [])
 faultless-one_more opening trail r f other none = faultless-more opening trail (r ∷ []) f other (none-both (fault_of opening trail r []) None none refl)
 
 pub faultless-none : (opening : ℕ) → IsFaultless opening []

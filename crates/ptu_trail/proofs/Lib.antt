@@ -1,7 +1,7 @@
 pub mod Accounts
 mod Ends
-mod Faultless
-mod Judging
+pub mod Faultless
+pub mod Judging
 mod Knowing
 mod Living
 mod Sheds

@@ -5,6 +5,7 @@ use Rattle.std.proofs.lemmas.Bool.{eq-eqb, false≢true, le-ltb, lt-ltb, ltb-fal
 use Rattle.std.proofs.lemmas.List.{append-nil}
 use Rattle.std.proofs.lemmas.List.Elements.{All-contains_itself, All-filter, All-head, All-tail, All-weaker, filter-append}
 use Rattle.std.proofs.lemmas.List.Sums.{sum_by-append, sum_by-cons}
+use Rattle.std.proofs.Math.Bool.{and-false}
 use Rattle.ptu_units.specs.{declared.kind.Kind.{Kind}, Log.{rate_of}}
 use Rattle.ptu_units.specs.{declared.client.Client.{Client}, Client.{same_lease}}
 use Rattle.ptu_history.specs.History.{Record, Granted, Ended, Shed, is_decision}
@@ -55,10 +56,6 @@ left_is c k lease (g ∷ gs) own =
     one : (b : Bool) → is_of c k g ≡ b → (is_of c k g ≡ true → lease.until ≡ g.until) → not (eqb lease.until g.until && same_lease c k g.client g.kind) ≡ not (is_of c k g)
     one true is ends = ap (λ b. not (b && is_of c k g)) (eq-eqb lease.until g.until (ends is))
     one false is ends = ap (λ b. not (eqb lease.until g.until && b)) is ∙ ap not (and-false (eqb lease.until g.until)) ∙ sym (ap not is)
-      where
-        and-false : (b : Bool) → (b && false) ≡ false
-        and-false true = refl
-        and-false false = refl
 
 pub of-without : (c : Client) (k : Kind) (lease : Lease) (gs : List Grant) (es : List (End × ℕ)) → AreOf gs es → IsLatestLeaseOf c k (Some lease) gs → AreOf (without c k gs) (filter (is_other_entry (end_of c k lease)) es)
 of-without c k lease gs es same own =

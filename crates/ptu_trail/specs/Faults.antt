@@ -120,11 +120,6 @@ first_fault opening before (r ∷ more) =
 abbrev pub record_of : ℕ → Shedding → Record
 record_of x s = Shed x s.client s.kind
 
--- the record is a shedding
-abbrev pub is_shed_record : Record → Bool
-is_shed_record (Shed x c k) = true
-is_shed_record _ = false
-
 -- the moment of a timestamp; one whose nanoseconds are not below 10^9 stands for no moment
 abbrev pub moment_of_stamp : Stamp → ℕ
 moment_of_stamp stamp =

@@ -3,7 +3,7 @@ use Rattle.std.specs.Prelude.{◌≡◌, ℕ, ◌+◌, max, nat_lt, false, List,
 use Rattle.std.specs.Ordering.{int_eq}
 use Rattle.ptu_units.specs.declared.kind.{Kind.{Kind}, Kind.TheVariants.{Announce, Sync, DelayResp}}
 use Rattle.ptu_units.specs.{declared.client.Client.{Client}, Log.{period_of}}
-use Rattle.ptu_history.specs.History.{Record, Granted}
+use Rattle.ptu_history.specs.History.{Granted, Record}
 use Rattle.ptu_history.specs.{Live.{last_decision, live}, Lawful.{earliest}}
 use Rattle.ptu_trail.specs.declared.cause.NoCause.{NoCause}
 use Rattle.ptu_trail.specs.declared.cause.NoCause.TheVariants as causes

@@ -8,10 +8,11 @@ ghost use Rattle.ptu_units.specs.{declared.client.Client.{Client}, Time.{second}
 ghost use Rattle.ptu_history.specs.History.{Record, Capacity, Sent};
 ghost use Rattle.ptu_history.specs.Lawful.{earliest};
 ghost use Rattle.ptu_history.specs.Held.{payments};
+ghost use Rattle.ptu_history.specs.Counts.{is_shedding};
 ghost use Rattle.ptu_laws.specs.{Paid.{IsPaid}, Promises.{KeepsPromises}, Sound.{IsSound}};
 ghost use Rattle.ptu_trail.specs.declared.cause.NoCause.TheVariants as causes;
 ghost use Rattle.ptu_trail.specs.declared.cause.Shedding.{Shedding};
-ghost use Rattle.ptu_trail.specs.Faults.{AreInRange, IsFaultless, decided_clients, fault_of, first_fault, is_shed_record, message_to, record_of};
+ghost use Rattle.ptu_trail.specs.Faults.{AreInRange, IsFaultless, decided_clients, fault_of, first_fault, message_to, record_of};
 
 /// A trail without a fault, whose grants' logarithms are in range, is sound, and so keeps the
 /// promises: the rates held sum to at most the capacity in force at every moment, each message
@@ -37,7 +38,7 @@ pub fn faultless_trails()
 pub fn faultless_so_far()
     ensures none { (opening : ℕ) → IsFaultless opening [] }
     ensures one_more { (opening : ℕ) (trail : List Record) (r : Record) →
-        IsFaultless opening trail → is_shed_record r ≡ false →
+        IsFaultless opening trail → is_shedding r ≡ false →
         fault_of opening trail r [] ≡ None → IsFaultless opening (trail ++ r ∷ []) }
     ensures change { (opening : ℕ) (trail : List Record) (x capacity : ℕ)
         (shed : List Shedding) →

@@ -1,12 +1,10 @@
 use crate::{Polled, SysClock, UdpHost, UdpPort};
-use ptu_outside::{Channel, Clock, Host, Opened, Port};
+use ptu_outside::{Channel, Clock, Host, LOOPBACK, Opened, Port};
 use std::net::{Net, UdpSocket};
 use std::process::Abort;
 use std::test::Fail;
 use std::time::{Duration, Instant};
 use std::{thread, time};
-
-const LOOPBACK: u32 = 0x7f00_0001;
 
 // The ports and clocks of this host at the first two UDP port numbers from this one on that are
 // free.

@@ -8,7 +8,7 @@ use crate::readiness::Readiness;
 use crate::sys_clock::SysClock;
 use crate::udp_port::{Numbers, UdpPort, bind};
 use crate::watch::Watch;
-use ptu_outside::{Failed, Host, Opened};
+use ptu_outside::{Failed, Host, LOOPBACK, Opened};
 use std::alloc::Global;
 use std::io;
 use std::io::ErrorKind;
@@ -16,9 +16,6 @@ use std::marker::Model;
 use std::net::{Ipv4Addr, Net, SocketAddrV4, UdpSocket};
 use std::os::fd::AsRawFd;
 use std::time::{Clock, Instant};
-
-/// The address by which the machine speaks to itself, 127.0.0.1.
-const LOOPBACK: u32 = 0x7f00_0001;
 
 /// A port over the system.
 type SystemPort<R> = UdpPort<R, UdpSocket, Polled>;

@@ -1,4 +1,5 @@
 mod Tables
 pub mod Keys
+pub mod Counts
 pub mod BigEndian
 pub mod Signs

@@ -25,6 +25,7 @@ use Rattle.ptu_gm_messages.specs.Deciding.{Decision, client_of, decision_of, dec
 use Rattle.ptu_gm_messages.specs.Items.{heard_by, heard_in, items_among, items_by, of_message, with_items}
 use Rattle.ptu_profile.specs.Target.{is_target}
 use Rattle.ptu_record.specs.Step as slave_events
+use Rattle.ptu_record.proofs.OwnParts.{count_by-append}
 use Rattle.ptu_profile.specs.declared.slave.Master.{Master}
 use Rattle.ptu_slave_messages.specs.declared.heard.Heard as slave_heard
 use Rattle.ptu_slave_messages.specs.declared.heard.Heard.TheVariants as slave_heards
@@ -52,9 +53,6 @@ use Rattle.ptu_gm_messages.proofs.Octets.{few_among}
 use Rattle.ptu_world.proofs.Acting.{at_grandmaster, at_slave, told}
 
 -- ---- counts
-
-append_counts : {A : Type 0} (p : A → Bool) (xs ys : List A) → count_by p (xs ++ ys) ≡ count_by p xs + count_by p ys
-append_counts p xs ys = sum_by-append (λ x. cond (p x) 1 0) xs ys
 
 cons_counts : {A : Type 0} (p : A → Bool) (x : A) (xs : List A) → count_by p (x ∷ xs) ≡ cond (p x) 1 0 + count_by p xs
 cons_counts p x xs = sum_by-cons (λ y. cond (p y) 1 0) x xs
@@ -223,7 +221,7 @@ ToldFew done = count_by is_decided done.said ≤ 32
 done_few : (w : World) (ip : ℕ) (deed : Deed) → HasFew deed → ToldFew (done_by w ip deed)
 done_few w ip deed few =
     let sends : List Statement = sending_said (length w.sent) (map (sent_from ip) deed.sends) in
-    omega (arith, few.0, few.1, append_counts is_decided (deed.said ++ sends) deed.added, append_counts is_decided deed.said sends, none_sent (length w.sent) (map (sent_from ip) deed.sends))
+    omega (arith, few.0, few.1, count_by-append is_decided (deed.said ++ sends) deed.added, count_by-append is_decided deed.said sends, none_sent (length w.sent) (map (sent_from ip) deed.sends))
 
 quiet_few : (made : Result World Cause) → IfOk (quietly made) ToldFew
 quiet_few (Ok world) = omega arith
@@ -272,7 +270,7 @@ at_lines n (x ∷ xs) = cons_counts is_decided_line (At n x) (map (At n) xs) ∙
 
 module _ (n k : ℕ) (later : World → List ReportLine) (rest : (w : World) → count_by is_decided_line (later w) ≤ 32 * k) where
   by_done : (r : Result Done Cause) → IfOk r ToldFew → count_by is_decided_line (lines_by n r later) ≤ 32 * suc k
-  by_done (Ok done) few = omega (arith, few, rest done.world, append_counts is_decided_line (map (At n) done.said) (later done.world), at_lines n done.said)
+  by_done (Ok done) few = omega (arith, few, rest done.world, count_by-append is_decided_line (map (At n) done.said) (later done.world), at_lines n done.said)
   by_done (Err cause) few = omega (arith, one_none is_decided_line (At n (statements.Bad cause)) refl)
 
   by_line : (w : World) (r : Result (Option Command) Cause) → count_by is_decided_line (lines_by_line w n r later) ≤ 32 * suc k

@@ -66,12 +66,16 @@ taken_by w (commands.Event t ip (acts.Capacity capacity)) d node e n = absurd cc
 -- ---- its place among the items
 
 module _ (opened : Config) (t : ℕ) (c : Client) where
-  placed-long : (h : List Record) (list : List Item) → length (placed opened h t c list) ≡ length list
+  pub placed-long : (h : List Record) (list : List Item) → length (placed opened h t c list) ≡ length list
   unfolding placed
   placed-long h [] = refl
   placed-long h (item ∷ list) = let ih = placed-long (h ++ item_records opened h t c item) list in omega (arith, ih)
 
-  abbrev behind_item : List Record → List Item → Item → List Item → List (List Record × Item)
+  pub decisions-long : (h : List Record) (list : List Item) → length (decisions_of opened h t c list) ≡ length list
+  decisions-long h list = length-map (placed opened h t c list) _ ∙ placed-long h list
+
+  -- what the items behind one come to
+  abbrev pub behind_item : List Record → List Item → Item → List Item → List (List Record × Item)
   behind_item h list item rest =
       let before = history_after opened h (events_of_items t c list) in
       placed opened (before ++ item_records opened before t c item) t c rest
@@ -84,7 +88,7 @@ module _ (opened : Config) (t : ℕ) (c : Client) where
       ap (λ ps. (h, i) ∷ ps) (placed-between (h ++ item_records opened h t c i) list item rest
       ∙ ap (λ b. placed opened (h ++ item_records opened h t c i) t c list ++ (b, item) ∷ placed opened (b ++ item_records opened b t c item) t c rest) (sym (history_after-items opened t h c i list)))
 
-  decisions-between : (h : List Record) (list : List Item) (item : Item) (rest : List Item)
+  pub decisions-between : (h : List Record) (list : List Item) (item : Item) (rest : List Item)
       → decisions_of opened h t c (list ++ item ∷ rest)
       ≡ decisions_of opened h t c list ++ decision_of opened (history_after opened h (events_of_items t c list)) t c item ∷ map (λ p. decision_of opened p.0 t c p.1) (behind_item h list item rest)
   decisions-between h list item rest =
@@ -128,7 +132,7 @@ module _ (w : World) (command : Command) (r : Request) (is : IsHanded w command 
   reply = reply_to r.gm.config r.handed.from r.header
 
   first-long : length first ≡ length r.before
-  first-long = length-map (placed opened r.gm.past r.handed.at (client r) r.before) _ ∙ placed-long opened r.handed.at (client r) r.gm.past r.before
+  first-long = decisions-long opened r.handed.at (client r) r.gm.past r.before
 
   taken : step w command ≡ Ok (done_by w r.handed.node heard_done)
   taken = taken_by w command r.handed (IsGrandmaster r.gm) is.handed is.node
@@ -158,7 +162,7 @@ module _ (w : World) (command : Command) (r : Request) (is : IsHanded w command 
     answer_place = length-map first answer_to ∙ first-long;
     answers = ap length (sym (map-append answer_to first (own ∷ later))) ∙ ap (λ ds. length (map answer_to ds)) (sym decisions)
         ∙ length-map (decisions_of opened r.gm.past r.handed.at (client r) all_items) answer_to
-        ∙ length-map (placed opened r.gm.past r.handed.at (client r) all_items) _ ∙ placed-long opened r.handed.at (client r) r.gm.past all_items;
+        ∙ decisions-long opened r.handed.at (client r) r.gm.past all_items;
   }
 
 -- ---- its verdict

@@ -58,11 +58,11 @@ heads sends = filter_map (λ (d : Departure). timing_to d.ip d.bytes) sends
 -- ---- what an event appends, and what it sends
 
 -- one record more
-append-option : (o : Option Timing) (xs ys : List Timing) → cons_option o (xs ++ ys) ≡ cons_option o xs ++ ys
+pub append-option : (o : Option Timing) (xs ys : List Timing) → cons_option o (xs ++ ys) ≡ cons_option o xs ++ ys
 append-option None xs ys = refl
 append-option (Some t) xs ys = refl
 
-messages_in-append : (epoch : ℕ) (before xs ys : List Record) → messages_in epoch before (xs ++ ys) ≡ messages_in epoch before xs ++ messages_in epoch (before ++ xs) ys
+pub messages_in-append : (epoch : ℕ) (before xs ys : List Record) → messages_in epoch before (xs ++ ys) ≡ messages_in epoch before xs ++ messages_in epoch (before ++ xs) ys
 messages_in-append epoch before [] ys = ap (λ h. messages_in epoch h ys) (sym (append-nil before))
 messages_in-append epoch before (x ∷ xs) ys =
     ap (cons_option (message_in epoch before x)) (messages_in-append epoch (before ++ x ∷ []) xs ys ∙ ap (λ h. messages_in epoch (before ++ x ∷ []) xs ++ messages_in epoch h ys) (append_assoc before (x ∷ []) xs))

@@ -12,10 +12,6 @@ lines_of (line ∷ lines) = (line ++ 10 ∷ []) ∷ lines_of lines
 abbrev pub script_of : List (List ℕ) → List ℕ
 script_of lines = flat_map (λ line. line) (lines_of lines)
 
--- a stock without judges, and one with plenty
-abbrev pub no_judges : Stock
-no_judges = record { flags = 0; gaps = 0 }
-
 abbrev pub plenty : Stock
 plenty = record { flags = 64; gaps = 64 }
 

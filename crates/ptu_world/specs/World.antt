@@ -25,6 +25,10 @@ pub record Stock : Type 0 where
   pub flags : ℕ
   pub gaps : ℕ
 
+-- a stock without judges
+abbrev pub no_judges : Stock
+no_judges = record { flags = 0; gaps = 0 }
+
 -- nodes with their addresses, of which those that were placed last stand first
 abbrev pub Nodes : Type 0
 Nodes = List (ℕ × Node)

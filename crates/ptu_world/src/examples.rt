@@ -1,7 +1,8 @@
 //! Small scripts and their reports. Each clause is one script; the bodies are empty.
 ghost use Rattle.std.specs.Prelude.{◌≡◌, ◌∷◌, [], codes};
 ghost use Rattle.ptu_world.specs.Report.{report};
-ghost use Rattle.ptu_world.specs.Samples.{script_of, lines_of, no_judges, plenty, gm_line, slave_line, one_ask, one_grant, one_denial, empty_datagram, ignored_datagram, turns_script, messages_of_turns, cancels_script, acknowledgements, delay_reqs, delay_answers, falling_capacity, shed_grant, both_ends, selected_master_report, shed_slave, stopped_slave, loss_and_restoration, change_over_and_back, too_many_masters, gaps_script, selections, to_nobody, nobody, new_class, announced_class_report};
+ghost use Rattle.ptu_world.specs.Samples.{acknowledgements, announced_class_report, both_ends, cancels_script, change_over_and_back, delay_answers, delay_reqs, empty_datagram, falling_capacity, gaps_script, gm_line, ignored_datagram, lines_of, loss_and_restoration, messages_of_turns, new_class, nobody, one_ask, one_denial, one_grant, plenty, script_of, selected_master_report, selections, shed_grant, shed_slave, slave_line, stopped_slave, to_nobody, too_many_masters, turns_script};
+ghost use Rattle.ptu_world.specs.World.{no_judges};
 
 /// Scripts without events, and such that are refused.
 pub fn short_scripts()

@@ -19,15 +19,15 @@ use ptu_config::GmSettings;
 use ptu_config::samples::GM_SETTINGS;
 use ptu_daemon::serve;
 use ptu_outside::samples::{OnceHost, opened_with};
-use ptu_outside::{Arrival, Channel, DaemonFault, Datagram, MemClock, MemHost, MemPort, MemSink};
+use ptu_outside::{
+    Arrival, Channel, DaemonFault, Datagram, LOOPBACK, MemClock, MemHost, MemPort, MemSink,
+};
 use ptu_units::{Moment, UdpPortNumber};
 use std::alloc::Global;
 use std::process::Abort;
 use std::sync::Wait;
 use std::test::Fail;
 use std::thread::Threads;
-
-const LOOPBACK: u32 = 0x7f00_0001;
 
 // The UDP port number at which the daemon is spoken to.
 fn control_port(rt: &impl Abort) -> UdpPortNumber

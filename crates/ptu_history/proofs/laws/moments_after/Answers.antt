@@ -5,15 +5,10 @@ use Rattle.ptu_history.specs.{Live.{Grant}, Events.{Answer, Answered, NoGrant, T
 use Rattle.ptu_history.specs.{Turns.{due_grants, sent_record}, Shedding.{shed_grants}}
 use Rattle.ptu_history.specs.Step.{answer_records, delay_answer}
 use Rattle.ptu_history.proofs.AfterSteps.{table_moment-asked}
-use Rattle.ptu_history.proofs.Moments.{book_moment-none, book_moment-push, book_moment-resized, greatest-sent, table_moment-looked, table_moment-push, table_moment-sheds}
+use Rattle.ptu_history.proofs.Moments.{book_moment-none, book_moment-push, book_moment-resized, greatest-sent, table_moment-looked, table_moment-push, table_moment-sheds, answer_looked}
 use Rattle.ptu_history.proofs.Orders.{due_grants-table}
 use Rattle.ptu_history.proofs.Verdicts.{book_moment-verdict, records-outside, table_moment-verdict}
 use Rattle.ptu_history.proofs.laws.moments_after.Goals as goal
-
-answer_looked : (x : ℕ) (c : Client) (answer : Answer) → greatest_by book_part (Looked x (table_of c) ∷ answer_records x c answer) ≡ 0
-answer_looked x c Answered = refl
-answer_looked x c NoGrant = refl
-answer_looked x c (TooSoon earliest) = refl
 
 greatest-looked : (x j : ℕ) (grants : List Grant) → greatest_by book_part (Looked x j ∷ map (sent_record x) grants) ≡ 0
 greatest-looked x j grants = ap (λ n. max 0 n) (greatest-sent x grants)

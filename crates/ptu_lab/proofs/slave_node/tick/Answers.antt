@@ -1,9 +1,10 @@
 use Rattle.std.proofs.Common.{length}
 use Rattle.ptu_outside.proofs.HandsOver.{hands_surely, hands_whole}
 use Rattle.ptu_record.specs.Step.{Tick}
+use Rattle.ptu_record.proofs.Places.{all_places}
 use Rattle.ptu_profile.specs.Target.{all_ones}
 use Rattle.ptu_slave.specs.Seen.{seen}
-use Rattle.ptu_lab.proofs.{SlaveEvents.{all_places, plainly_stepped}, SlaveSends.{sure_tick}}
+use Rattle.ptu_lab.proofs.{SlaveEvents.{plainly_stepped}, SlaveSends.{sure_tick}}
 use Rattle.ptu_lab.proofs.slave_node.tick.Goals as goal
 
 pub returns : goal.returns

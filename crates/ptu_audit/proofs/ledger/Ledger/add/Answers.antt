@@ -2,13 +2,10 @@ use Rattle.std.proofs.Common.{◌≡◌, ◌∙◌, ◌++◌, List, Some, None, 
 use Rattle.std.specs.{BTreeMap.{get}, Option.{IsSome, option_copied_mut}}
 use Rattle.std.specs.Prelude.{Result, Ok, Err, IfOk}
 use Rattle.ptu_trail.proofs.Accounts.{if_none_map}
+use Rattle.ptu_trail.proofs.Judging.{if_ok_map}
 use Rattle.ptu_audit.specs.{Standing.{IsTrailKept}, Trails.{records_of}}
 use Rattle.ptu_audit.proofs.Ledgers.{others_now, there_now}
 use Rattle.ptu_audit.proofs.ledger.Ledger.add.Goals as goal
-
-if_ok_map : {A E : Type 0} {P Q : A → Type 0} (r : Result A E) → ((a : A) → P a → Q a) → IfOk r P → IfOk r Q
-if_ok_map (Ok a) f p = f a p
-if_ok_map (Err e) f p = tt
 
 pub returns-in-Some-clause-fault : goal.returns-in-Some-clause-fault
 returns-in-Some-clause-fault c = if_ok_map c.put.result (λ fault says history kept.

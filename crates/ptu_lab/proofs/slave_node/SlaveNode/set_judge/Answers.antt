@@ -2,8 +2,9 @@ use Rattle.std.proofs.{Common.{Some, ap}, lemmas.Result.{on_ok_weaker}}
 use Rattle.ptu_record.specs.Step.{ReplaceJudge}
 use Rattle.ptu_slave_messages.specs.Node.{deed}
 use Rattle.ptu_slave.specs.Seen.{Seen, seen}
-use Rattle.ptu_lab.proofs.SlaveEvents.{fresh_is, quietly_ended, replaced}
+use Rattle.ptu_lab.proofs.SlaveEvents.{quietly_ended, replaced}
 use Rattle.ptu_lab.proofs.slave_node.SlaveNode.set_judge.Goals as goal
+use Rattle.ptu_lab.proofs.SlaveMasters.{fresh_is}
 
 pub set_judge-requires-clause-fresh : goal.set_judge-requires-clause-fresh
 set_judge-requires-clause-fresh g c = fresh_is _ c.requires.fresh.0 c.requires.fresh.1

@@ -6,9 +6,9 @@ use Rattle.ptu_history.specs.{History.{Looked}, Moments.{book_moment}}
 use Rattle.ptu_history.specs.Step.{answer_records, delay_answer}
 use Rattle.ptu_shard.specs.{Fields.{row_of, rows_of}, Queue.{HasEdges, HasEnds}, Row.{share_of}}
 use Rattle.ptu_shard.specs.{Turn.{is_answering_row}, Answered.{answer_by}}
-use Rattle.ptu_history.proofs.Moments.{book_moment-none}
+use Rattle.ptu_history.proofs.Moments.{answer_looked, book_moment-none}
 use Rattle.ptu_shard.proofs.{Keeping.{edges_answered, ends_spent, length-spent}, RowLists.{Differ}}
-use Rattle.ptu_shard.proofs.Responses.{answer_is, answer_looked, stands_answered}
+use Rattle.ptu_shard.proofs.Responses.{answer_is, stands_answered}
 use Rattle.ptu_shard.proofs.Spending.{distinct_spent, share_of-spent}
 use Rattle.ptu_shard.proofs.shard.Shard.answer_delay.Goals as goal
 
