@@ -5,7 +5,7 @@ ghost use Rattle.ptu_lines.specs.Words.{words_of};
 ghost use Rattle.ptu_audit_lines.specs.Forms as specs;
 
 use crate::words::{is_channel, kind_of, number_of, octet_log};
-use ptu_lines::{WordList, ip};
+use ptu_lines::{KEPT_WORDS, WordList, ip};
 
 // Whether the word may stand in this place of a form: a place in upper case tells what stands
 // there, and any other is itself.
@@ -35,7 +35,8 @@ fn is_in_place(place: &[u8], word: &[u8]) -> bool
 fn is_filled(form: &[u8], line: &WordList) -> bool
     ensures { result ≡ specs.fits form.now line.now }
 {
-    let cut = WordList::new(form);
+    let mut ends = [0; KEPT_WORDS];
+    let cut = WordList::new(form, &mut ends);
     let mut k = 1;
     'places: loop {
         match (cut.word(k), line.word(k)) {
