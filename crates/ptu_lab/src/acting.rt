@@ -24,6 +24,7 @@ impl Node {
     ///
     /// # Errors
     /// `OutOfMemory`. Nothing is said of the lab then: the run ends.
+    #[inline(always)]
     pub fn act(
         &mut self,
         at: Moment,
@@ -89,6 +90,7 @@ impl Lab {
     ///
     /// # Errors
     /// `OutOfMemory`. Nothing is said of the lab then: the run ends.
+    #[inline(never)]
     pub fn deliver(&mut self, at: Moment, number: u64, room: &mut Vec<u8>) -> Stepped<Cause>
         requires means { (c : Course) × LabStandsFor held self.old c }
         requires empty { self.old.journal.texts ≡ [] }

@@ -9,7 +9,7 @@ use crate::Pool;
 use crate::command::PoolCommand;
 use crate::pool_set::MOST;
 use crate::verb::PoolVerb;
-use ptu_lines::{LineCause, WordList};
+use ptu_lines::{KEPT_WORDS, LineCause, WordList};
 use ptu_script::fields::{
     bits_field, capacity_field, ip_field, moment_field, number_field, octets_field,
 };
@@ -107,7 +107,8 @@ fn command<'a>(
     ensures value { result ≡ pool_command_in line.now }
     ensures within { IfOk result IsPoolCommandInRange }
 {
-    let words = WordList::new(line);
+    let mut ends = [0; KEPT_WORDS];
+    let words = WordList::new(line, &mut ends);
     fields(verb_of(&words)?, &words, room)
 }
 

@@ -8,7 +8,7 @@ use crate::command::Command;
 use crate::events::{capacity, class, deliver, flag, judge, rx, stop, tick, turn};
 use crate::setups::{gm, master, new_slave};
 use crate::verb::{Verb, verb_of};
-use ptu_lines::{LineCause, WordList};
+use ptu_lines::{KEPT_WORDS, LineCause, WordList};
 use ptu_units::sizes::LONGEST_DATAGRAM;
 
 // What stands behind the first word.
@@ -38,11 +38,13 @@ fn fields<'a>(
 }
 
 // The command of a line that is no comment.
+#[inline(always)]
 fn command<'a>(line: &[u8], room: &'a mut [u8; LONGEST_DATAGRAM]) -> Result<Command<'a>, LineCause>
     ensures value { result ≡ command_in line.now }
     ensures within { IfOk result IsCommandInRange }
 {
-    let words = WordList::new(line);
+    let mut ends = [0; KEPT_WORDS];
+    let words = WordList::new(line, &mut ends);
     fields(verb_of(&words)?, &words, room)
 }
 
