@@ -84,6 +84,20 @@ fn assert_idle<R: Clock + Copy>(rt: &impl Abort, opened: &mut SystemPorts<R>, ti
     }
 }
 
+// Nothing waits, and what is sent to the address comes from it.
+fn assert_comes<R: Clock + Copy>(rt: &impl Abort, opened: &mut SystemPorts<R>) {
+    assert_idle(rt, opened, 10);
+    let bytes = b"from the second address";
+    assert!(rt; opened.p0.send(ADDRESS, Channel::General, bytes).is_ok());
+    assert_receives(rt, &mut opened.p4, Some((ADDRESS, bytes.len())));
+}
+
+fn open_and_send<R: Net + Clock + Copy + Send>(rt: &impl Abort, host: &mut UdpHost<R>) {
+    let mut opened = open(rt, host, ADDRESS, 22119);
+    assert_comes(rt, &mut opened);
+    host.close(opened);
+}
+
 // It refuses a host that binds a port that sends to no address, so that clients with several paths
 // to it see another sender than they asked; and a port of which a receive rests, since a daemon
 // waits at the end of its round.
@@ -91,13 +105,8 @@ fn assert_idle<R: Clock + Copy>(rt: &impl Abort, opened: &mut SystemPorts<R>, ti
 fn ports_are_at_the_address_and_no_receive_rests(rt: HostRuntime) {
     let watched = note_of(rt);
     let mut host = UdpHost::new(rt.alloc(), &watched);
-    let mut opened = open(&rt, &mut host, ADDRESS, 22119);
-    assert_idle(&rt, &mut opened, 10);
+    open_and_send(&rt, &mut host);
     assert_eq!(rt; noted(&watched), (0, 0));
-    let bytes = b"from the second address";
-    assert!(rt; opened.p0.send(ADDRESS, Channel::General, bytes).is_ok());
-    assert_receives(&rt, &mut opened.p4, Some((ADDRESS, bytes.len())));
-    host.close(opened);
 }
 
 // What the ports of the general and of the event channel receive next, where neither has anything,
@@ -115,19 +124,25 @@ fn after_wait<R: Clock + Copy>(
     (general, event)
 }
 
+fn open_and_wait<R: Net + Clock + Copy + Send>(
+    rt: &impl Abort,
+    host: &mut UdpHost<R>,
+    channel: Channel,
+) -> (bool, bool) {
+    let mut opened = open(rt, host, ADDRESS, 22119);
+    let came = after_wait(rt, &mut opened, channel);
+    host.close(opened);
+    came
+}
+
 // It refuses a port of the event channel that watches its own socket alone, the two exchanged, or
 // none: the next receive of a socket at which a look has seen nothing does not ask the system.
 #[test]
 fn a_wait_of_the_event_port_watches_both_channels(rt: HostRuntime) {
     let watched = note_of(rt);
     let mut host = UdpHost::new(rt.alloc(), &watched);
-    for (channel, came) in [
-        (Channel::General, (true, false)),
-        (Channel::Event, (false, true)),
-    ] {
-        let mut opened = open(&rt, &mut host, ADDRESS, 22119);
-        assert_eq!(rt; after_wait(&rt, &mut opened, channel), came);
-        host.close(opened);
-    }
+    let general = open_and_wait(&rt, &mut host, Channel::General);
+    let event = open_and_wait(&rt, &mut host, Channel::Event);
+    assert_eq!(rt; (general, event), ((true, false), (false, true)));
     assert_eq!(rt; noted(&watched), (0, 0));
 }

@@ -34,13 +34,24 @@ fn assert_comes<P: Port>(
     assert_receives(rt, to, None);
 }
 
+fn assert_general<R: time::Clock + Copy>(rt: &impl Abort, opened: &mut SystemPorts<R>) {
+    let (from, to) = (&mut opened.p0, &mut opened.p4);
+    assert_comes(rt, from, to, Channel::General, b"eight by");
+}
+
 #[test]
 fn a_datagram_of_port_0_comes_to_port_4(rt: HostRuntime) {
     let mut host = UdpHost::new(rt.alloc(), rt);
     let mut opened = open(&rt, &mut host, LOOPBACK, 21319);
-    let (from, to) = (&mut opened.p0, &mut opened.p4);
-    assert_comes(&rt, from, to, Channel::General, b"eight by");
+    assert_general(&rt, &mut opened);
     host.close(opened);
+}
+
+// A datagram of the event channel, of port 1, comes to port 5, and nothing to port 4.
+fn assert_event<R: time::Clock + Copy>(rt: &impl Abort, opened: &mut SystemPorts<R>) {
+    let (from, to) = (&mut opened.p1, &mut opened.p5);
+    assert_comes(rt, from, to, Channel::Event, b"event");
+    assert_receives(rt, &mut opened.p4, None);
 }
 
 // It refuses a port that sends both channels to one number, and a host whose ports 4 and 5 are
@@ -49,9 +60,7 @@ fn a_datagram_of_port_0_comes_to_port_4(rt: HostRuntime) {
 fn a_datagram_of_the_event_channel_comes_to_port_5(rt: HostRuntime) {
     let mut host = UdpHost::new(rt.alloc(), rt);
     let mut opened = open(&rt, &mut host, LOOPBACK, 21519);
-    let (from, to) = (&mut opened.p1, &mut opened.p5);
-    assert_comes(&rt, from, to, Channel::Event, b"event");
-    assert_receives(&rt, &mut opened.p4, None);
+    assert_event(&rt, &mut opened);
     host.close(opened);
 }
 
