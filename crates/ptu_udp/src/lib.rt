@@ -12,18 +12,9 @@ mod udp_port;
 mod watch;
 
 pub use lookout::{Came, Lookout, Polled};
+pub use readiness::Readiness;
 pub use socket::Socket;
 pub use sys_clock::SysClock;
 pub use udp_host::UdpHost;
-pub use udp_port::UdpPort;
-
-#[cfg(test)]
-mod host_tests;
-#[cfg(test)]
-mod memory;
-#[cfg(test)]
-mod port_tests;
-#[cfg(test)]
-mod tests;
-#[cfg(test)]
-mod wait_tests;
+pub use udp_port::{Numbers, UdpPort};
+pub use watch::Watch;

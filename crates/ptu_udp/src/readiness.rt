@@ -7,14 +7,17 @@ use std::sync::atomic::{AtomicBool, Ordering};
 /// What is known of a socket: whether its last receive found nothing, and whether a look at it has
 /// said since that nothing came. The port that receives there and those that look share it.
 #[derive(Drop)]
-pub(crate) struct Readiness {
+pub struct Readiness {
     empty: Arc<AtomicBool, Global>,
     quiet: Arc<AtomicBool, Global>,
 }
 
 impl Readiness {
     /// Of a socket at which a datagram may wait.
-    pub(crate) fn new(alloc: Global) -> Result<Readiness, AllocError> {
+    ///
+    /// # Errors
+    /// Where memory is wanting.
+    pub fn new(alloc: Global) -> Result<Readiness, AllocError> {
         Ok(Readiness {
             empty: Arc::new(alloc, AtomicBool::new(false))?,
             quiet: Arc::new(alloc, AtomicBool::new(false))?,
@@ -22,7 +25,10 @@ impl Readiness {
     }
 
     /// The same readiness, for another port.
-    pub(crate) fn share(&self) -> Result<Readiness, AllocError> {
+    ///
+    /// # Errors
+    /// Where it is shared too often.
+    pub fn share(&self) -> Result<Readiness, AllocError> {
         Ok(Readiness {
             empty: self.empty.clone()?,
             quiet: self.quiet.clone()?,
@@ -30,7 +36,7 @@ impl Readiness {
     }
 
     /// A receive found nothing, or took a datagram.
-    pub(crate) fn note_receive(&self, empty: bool) {
+    pub fn note_receive(&self, empty: bool) {
         self.empty.store(empty, Ordering::SeqCst);
     }
 

@@ -136,6 +136,17 @@ impl<R: Net + Clock + Copy> UdpHost<R> {
         ))
     }
 
+    // Two ports at this address, each at a number that is free.
+    fn two_senders(
+        &self,
+        start: Instant,
+        ip: u32,
+        numbers: Numbers,
+    ) -> io::Result<(SystemPort<R>, SystemPort<R>)> {
+        let one = self.sender(start, ip, numbers)?;
+        Ok((one, self.sender(start, ip, numbers)?))
+    }
+
     fn open_all(
         &self,
         ip: u32,
@@ -143,11 +154,13 @@ impl<R: Net + Clock + Copy> UdpHost<R> {
     ) -> io::Result<Opened<SystemPort<R>, SysClock<R>>> {
         let start = Instant::now(&self.runtime)?;
         let (p4, p5) = self.receivers(start, ip, numbers)?;
+        let (p0, p1) = self.two_senders(start, ip, numbers)?;
+        let (p2, p3) = self.two_senders(start, ip, numbers)?;
         Ok(Opened {
-            p0: self.sender(start, ip, numbers)?,
-            p1: self.sender(start, ip, numbers)?,
-            p2: self.sender(start, ip, numbers)?,
-            p3: self.sender(start, ip, numbers)?,
+            p0,
+            p1,
+            p2,
+            p3,
             p4,
             p5,
             c0: SysClock::since(self.runtime, start),
@@ -210,7 +223,7 @@ impl<R: Net + Clock + Copy + Send> Host for UdpHost<R> {
         ensures back { IfTold None (Some opened) }
         ensures quiet { self.new ≡ self.old }
     {
-        let _ = opened;
+        drop(opened);
     }
 
     /// Fails where the system refuses a socket at that number of 127.0.0.1, or where no number
@@ -235,6 +248,6 @@ impl<R: Net + Clock + Copy + Send> Host for UdpHost<R> {
         ensures control_back { IfTold None (Some port) }
         ensures quiet { self.new ≡ self.old }
     {
-        let _ = port;
+        drop(port);
     }
 }

@@ -19,8 +19,10 @@ use std::time::{Clock, Instant};
 
 /// The UDP port numbers of the two channels.
 #[derive(Clone, Copy)]
-pub(crate) struct Numbers {
+pub struct Numbers {
+    /// That of the event channel.
     pub event: u16,
+    /// That of the general channel.
     pub general: u16,
 }
 
@@ -53,9 +55,10 @@ pub(crate) fn bind<R: Net>(runtime: &R, address: SocketAddrV4) -> io::Result<Udp
 }
 
 impl<R: Clock + Drop, S: Socket, L: Lookout> UdpPort<R, S, L> {
-    // A port over this socket, which sends to these numbers. It waits for moments that count from
-    // the start, and by the watch, if there is one, for datagrams.
-    pub(crate) fn over(
+    /// A port over this socket, which sends to these numbers. It waits for moments that count from
+    /// the start, and by the watch, if there is one, for datagrams. The readiness is that of the
+    /// socket.
+    pub fn over(
         runtime: R,
         start: Instant,
         socket: S,

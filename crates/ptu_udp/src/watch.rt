@@ -31,7 +31,7 @@ const MOST_LOOKS: u32 = 16;
 
 /// Waits for the sockets of the two channels.
 #[derive(Drop)]
-pub(crate) struct Watch<L> {
+pub struct Watch<L> {
     lookout: L,
     general: Readiness,
     event: Readiness,
@@ -41,7 +41,7 @@ pub(crate) struct Watch<L> {
 
 impl<L: Lookout> Watch<L> {
     /// A watch over the sockets of which this is known.
-    pub(crate) fn new(lookout: L, general: Readiness, event: Readiness) -> Watch<L> {
+    pub fn new(lookout: L, general: Readiness, event: Readiness) -> Watch<L> {
         Watch {
             lookout,
             general,

@@ -105,22 +105,32 @@ fn datagram(alloc: Global, octets: &[u8], length: usize) -> Result<Vec<u8>, Allo
     Ok(whole)
 }
 
+// Asserts that the header is sent as these octets.
+fn assert_written(rt: &impl Abort, kept: &Header, length: u16, octets: &[u8]) {
+    assert!(rt; kept.message_type < 16 && length >= 34);
+    let mut out = [0xdd; 34];
+    write_header(kept, length, &mut out);
+    assert!(rt; out.as_slice() == octets);
+}
+
+// Asserts that the octets are read as this header.
+fn assert_read(rt: &impl Abort, kept: &Header, length: u16, octets: &[u8]) {
+    assert!(rt; read_header(octets) == Ok((*kept, length)));
+}
+
 // Asserts that the header is sent as these octets, and that they are read as this header whatever
 // follows.
 fn assert_sent(
     rt: &impl Abort,
     alloc: Global,
-    kept: Header,
+    kept: &Header,
     length: u16,
-    octets: [u8; 34],
+    octets: &[u8],
 ) -> Result<(), AllocError> {
-    assert!(rt; kept.message_type < 16 && length >= 34);
-    let mut out = [0xdd; 34];
-    write_header(&kept, length, &mut out);
-    assert_eq!(rt; out.as_slice(), octets.as_slice());
+    assert_written(rt, kept, length, octets);
     for beyond in [0, 2] {
-        let whole = datagram(alloc, &octets, usize::from(length) + beyond)?;
-        assert_eq!(rt; read_header(&whole), Ok((kept, length)));
+        let whole = datagram(alloc, octets, usize::from(length) + beyond)?;
+        assert_read(rt, kept, length, &whole);
     }
     Ok(())
 }
@@ -128,10 +138,10 @@ fn assert_sent(
 #[test]
 fn headers_are_read_and_written(rt: HostRuntime) -> Result<(), Fail> {
     let alloc = rt.alloc();
-    assert_sent(&rt, alloc, LEAST, 34, LEAST_OCTETS)?;
-    assert_sent(&rt, alloc, GREATEST, 65535, GREATEST_OCTETS)?;
-    assert_sent(&rt, alloc, SIGNALING, 80, SIGNALING_OCTETS)?;
-    assert_sent(&rt, alloc, DELAY_REQ, 44, DELAY_REQ_OCTETS)?;
-    assert_sent(&rt, alloc, FOLLOW_UP, 44, FOLLOW_UP_OCTETS)?;
+    assert_sent(&rt, alloc, &LEAST, 34, &LEAST_OCTETS)?;
+    assert_sent(&rt, alloc, &GREATEST, 65535, &GREATEST_OCTETS)?;
+    assert_sent(&rt, alloc, &SIGNALING, 80, &SIGNALING_OCTETS)?;
+    assert_sent(&rt, alloc, &DELAY_REQ, 44, &DELAY_REQ_OCTETS)?;
+    assert_sent(&rt, alloc, &FOLLOW_UP, 44, &FOLLOW_UP_OCTETS)?;
     Ok(())
 }

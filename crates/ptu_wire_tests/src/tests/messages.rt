@@ -83,8 +83,8 @@ fn a_sync_leaves_the_rest(rt: HostRuntime) {
         }),
     };
     let mut out = [0xdd; 64];
-    assert_eq!(rt; write_fixed(&sync, &mut out), 44);
-    assert_eq!(rt; out.as_slice(), SYNC.as_slice());
+    let size = write_fixed(&sync, &mut out);
+    assert!(rt; size == 44 && out == SYNC);
 }
 
 #[test]
@@ -129,18 +129,29 @@ fn a_signaling_without_tlvs(rt: HostRuntime) -> Result<(), Fail> {
     assert_read(&rt, alloc, &none, out.get(..size).unwrap_or(&[]))
 }
 
+// The text of the fault is this.
+fn assert_named(
+    rt: &impl Abort,
+    alloc: Global,
+    fault: &MessageFault,
+    name: &str,
+) -> Result<(), Fail> {
+    let text = format!(in alloc; "{fault}")?;
+    assert_eq!(rt; text.as_str(), name);
+    Ok(())
+}
+
 #[test]
 fn faults_are_named(rt: HostRuntime) -> Result<(), Fail> {
-    let alloc = rt.alloc();
     let header = MessageFault::Header(HeaderFault::Length { said: 55, have: 54 });
-    let text = format!(in alloc; "{header}")?;
-    assert_eq!(rt; text.as_str(), "messageLength is 55 and not from 34 to 54");
+    assert_named(
+        &rt,
+        rt.alloc(),
+        &header,
+        "messageLength is 55 and not from 34 to 54",
+    )?;
     let fault = TlvFault::Overrun { said: 6, have: 5 };
     let tlv = MessageFault::Tlv { at: 44, fault };
-    let text = format!(in alloc; "{tlv}")?;
-    assert_eq!(rt;
-        text.as_str(),
-        "TLV at octet 44: lengthField is 6 where 5 octets follow"
-    );
-    Ok(())
+    let name = "TLV at octet 44: lengthField is 6 where 5 octets follow";
+    assert_named(&rt, rt.alloc(), &tlv, name)
 }

@@ -5,12 +5,11 @@ use ptu_outside::{Failed, MemSink, MemSource, Sink, Source, StdSink, StdSource, 
 use std::alloc::{AllocError, Global};
 use std::io;
 use std::io::{ErrorKind, Read, Write};
+use std::process::Abort;
 use std::test::Fail;
 
-#[test]
-fn a_source_gives_and_a_sink_keeps_and_both_fail_where_listed(rt: HostRuntime) -> Result<(), Fail> {
-    let alloc = rt.alloc();
-    let mut source = MemSource::new(vec![in alloc; 1, 2, 3]?, vec![in alloc; 2]?);
+// The source gives 1, 2 and 3, two at a time, and its second read fails.
+fn assert_gives(rt: &impl Abort, source: &mut MemSource) {
     let mut buf = [0; 2];
     assert_eq!(rt; (source.read(&mut buf), buf), (Ok(2), [1, 2]));
     let failed = source.read(&mut buf);
@@ -19,16 +18,31 @@ fn a_source_gives_and_a_sink_keeps_and_both_fail_where_listed(rt: HostRuntime) -
         (failed, last, source.read(&mut buf)),
         (Err(Failed), (Ok(1), 3), Ok(0))
     );
-    let mut sink = MemSink::new(alloc, vec![in alloc; 2]?);
+}
+
+// The sink keeps what it is given, and its second write fails.
+fn assert_keeps(rt: &impl Abort, sink: &mut MemSink) {
     assert!(rt; sink.reserve(8).is_ok());
     let written = [
-        write_whole(&mut sink, b"ab"),
-        write_whole(&mut sink, b"cd"),
-        write_whole(&mut sink, b"ef"),
+        write_whole(sink, b"ab"),
+        write_whole(sink, b"cd"),
+        write_whole(sink, b"ef"),
     ];
     assert_eq!(rt; written, [Ok(()), Err(Failed), Ok(())]);
     assert!(rt; sink.bytes() == b"abef".as_slice());
-    assert!(rt; sink.into_bytes().as_slice() == b"abef".as_slice());
+}
+
+#[test]
+fn a_source_gives_and_a_sink_keeps_and_both_fail_where_listed(rt: HostRuntime) -> Result<(), Fail> {
+    let alloc = rt.alloc();
+    let octets = vec![in alloc; 1, 2, 3]?;
+    let mut source = MemSource::new(octets, vec![in alloc; 2]?);
+    assert_gives(&rt, &mut source);
+    drop(source);
+    let mut sink = MemSink::new(alloc, vec![in alloc; 2]?);
+    assert_keeps(&rt, &mut sink);
+    let octets = sink.into_bytes();
+    assert!(rt; octets.as_slice() == b"abef".as_slice());
     Ok(())
 }
 

@@ -93,7 +93,9 @@ fn a_host_opens_once_and_takes_back(rt: HostRuntime) {
     let after = (opened, host.back().is_some(), host.opened_at());
     assert_eq!(rt; after, (true, true, Some(endpoint)));
     assert!(rt; open_and_close(&mut host).is_err());
+    drop(host);
     let mut failing = MemHost::new(opened_with(alloc, idle_port(alloc)), true);
     let opened = open_and_close(&mut failing).is_ok();
     assert_eq!(rt; (opened, failing.opened_at()), (false, None));
+    drop(failing);
 }

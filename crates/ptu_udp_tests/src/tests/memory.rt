@@ -2,64 +2,50 @@
 
 ghost use Rattle.std.specs.Prelude.{◌≤◌, length, IfOk};
 
-use crate::udp_port::Numbers;
-use crate::{Came, Lookout, Socket};
-use std::alloc::{AllocError, Global};
+use ptu_udp::{Came, Lookout, Numbers, Socket, UdpPort};
 use std::io;
 use std::io::ErrorKind;
 use std::net::{Ipv4Addr, SocketAddr, SocketAddrV4};
-use std::sync::Arc;
 use std::sync::atomic::{AtomicU64, Ordering};
 use std::time::{Clock, Duration};
 
-/// The UDP ports of the two channels of a port under test.
+/// The UDP port numbers to which ports in memory send.
 pub(crate) const NUMBERS: Numbers = Numbers {
     event: 1319,
     general: 1320,
 };
 
-/// The IPv4 address that a datagram comes from.
+/// 192.0.2.7, from which all datagrams in memory come.
 pub(crate) const CLIENT: u32 = 0xc000_0207;
+
+/// A port over a socket in memory.
+pub(crate) type StagePort<'a> = UdpPort<&'a SleepClock, MemSocket<'a>, MemLookout<'a>>;
 
 /// A clock that stands still but while somebody sleeps. Each sleep takes a little longer than was
 /// asked, and each second one may take longer still.
 #[derive(Drop)]
 pub(crate) struct SleepClock {
-    nanos: Arc<AtomicU64, Global>,
-    sleeps: Arc<AtomicU64, Global>,
+    nanos: AtomicU64,
+    sleeps: AtomicU64,
     late: u64,
     later: u64,
 }
 
 impl SleepClock {
     /// A clock at 0, by which each sleep takes so many microseconds longer.
-    pub(crate) fn new(alloc: Global, late: u64) -> Result<SleepClock, AllocError> {
-        SleepClock::uneven(alloc, late, late)
+    pub(crate) fn new(late: u64) -> SleepClock {
+        SleepClock::uneven(late, late)
     }
 
     /// A clock at 0, by which each first sleep of two takes so many microseconds longer, and each
     /// second one so many.
-    pub(crate) fn uneven(alloc: Global, late: u64, later: u64) -> Result<SleepClock, AllocError> {
-        let nanos = Arc::new(alloc, AtomicU64::new(0))?;
-        let sleeps = Arc::new(alloc, AtomicU64::new(0))?;
-        Ok(SleepClock {
-            nanos,
-            sleeps,
+    pub(crate) fn uneven(late: u64, later: u64) -> SleepClock {
+        SleepClock {
+            nanos: AtomicU64::new(0),
+            sleeps: AtomicU64::new(0),
             late: late.saturating_mul(1000),
             later: later.saturating_mul(1000),
-        })
-    }
-
-    /// The same clock once more: a rest on one of them moves both.
-    pub(crate) fn share(&self) -> Result<SleepClock, AllocError> {
-        let nanos = self.nanos.clone()?;
-        let sleeps = self.sleeps.clone()?;
-        Ok(SleepClock {
-            nanos,
-            sleeps,
-            late: self.late,
-            later: self.later,
-        })
+        }
     }
 
     /// For how many microseconds somebody has slept.
@@ -96,15 +82,19 @@ impl Clock for SleepClock {
 /// A look at two sockets to which datagrams come at these microseconds of a clock, if at all. It
 /// tells of each once, and time passes while it waits.
 #[derive(Drop)]
-pub(crate) struct MemLookout {
-    clock: SleepClock,
+pub(crate) struct MemLookout<'a> {
+    clock: &'a SleepClock,
     general: Option<u64>,
     event: Option<u64>,
 }
 
-impl MemLookout {
+impl<'a> MemLookout<'a> {
     /// A look by this clock.
-    pub(crate) fn new(clock: SleepClock, general: Option<u64>, event: Option<u64>) -> MemLookout {
+    pub(crate) fn new(
+        clock: &'a SleepClock,
+        general: Option<u64>,
+        event: Option<u64>,
+    ) -> MemLookout<'a> {
         MemLookout {
             clock,
             general,
@@ -124,7 +114,7 @@ fn take_come(at: &mut Option<u64>, now: u64) -> bool {
     }
 }
 
-impl Lookout for MemLookout {
+impl Lookout for MemLookout<'_> {
     fn look(&mut self, millis: u64) -> io::Result<Came> {
         let now = self.clock.slept();
         let first = self
@@ -141,57 +131,64 @@ impl Lookout for MemLookout {
     }
 }
 
-/// What a socket in memory has seen, for the test that has handed it over.
+/// What a socket in memory sees, for the test that hands it over.
 #[derive(Drop)]
 pub(crate) struct Seen {
-    /// How often a send was tried.
-    pub tries: Arc<AtomicU64, Global>,
-    /// The address and the UDP port number of the last one that went, as one number.
-    pub target: Arc<AtomicU64, Global>,
-    /// How often a receive was tried.
-    pub receives: Arc<AtomicU64, Global>,
-    /// How many datagrams wait.
-    pub waiting: Arc<AtomicU64, Global>,
+    tries: AtomicU64,
+    target: AtomicU64,
+    receives: AtomicU64,
+    waiting: AtomicU64,
 }
 
 impl Seen {
-    /// Of a socket by which nothing was sent.
-    pub(crate) fn new(alloc: Global) -> Result<Seen, AllocError> {
-        Ok(Seen {
-            tries: Arc::new(alloc, AtomicU64::new(0))?,
-            target: Arc::new(alloc, AtomicU64::new(0))?,
-            receives: Arc::new(alloc, AtomicU64::new(0))?,
-            waiting: Arc::new(alloc, AtomicU64::new(1))?,
-        })
+    /// Of a socket by which nothing was sent, and at which one datagram waits.
+    pub(crate) fn new() -> Seen {
+        Seen {
+            tries: AtomicU64::new(0),
+            target: AtomicU64::new(0),
+            receives: AtomicU64::new(0),
+            waiting: AtomicU64::new(1),
+        }
     }
 
-    fn share(&self) -> Result<Seen, AllocError> {
-        Ok(Seen {
-            tries: self.tries.clone()?,
-            target: self.target.clone()?,
-            receives: self.receives.clone()?,
-            waiting: self.waiting.clone()?,
-        })
+    /// How often a send was tried.
+    pub(crate) fn tries(&self) -> u64 {
+        self.tries.load(Ordering::Relaxed)
+    }
+
+    /// The address and the UDP port number of the last one that went, as one number.
+    pub(crate) fn target(&self) -> u64 {
+        self.target.load(Ordering::Relaxed)
+    }
+
+    /// How often a receive was tried.
+    pub(crate) fn receives(&self) -> u64 {
+        self.receives.load(Ordering::Relaxed)
+    }
+
+    /// So many datagrams wait now.
+    pub(crate) fn set_waiting(&self, count: u64) {
+        self.waiting.store(count, Ordering::Relaxed);
     }
 }
 
 /// A socket by which so many sends find no room and so many calls are interrupted, and then all
-/// goes. The datagrams that wait at it are of three octets, from 192.0.2.7, at first one.
+/// goes. The datagrams that wait at it are of three octets.
 #[derive(Drop)]
-pub(crate) struct MemSocket {
+pub(crate) struct MemSocket<'a> {
     full: u64,
     interrupted: u64,
-    seen: Seen,
+    seen: &'a Seen,
 }
 
-impl MemSocket {
+impl<'a> MemSocket<'a> {
     /// A socket that notes here what it sees.
-    pub(crate) fn new(full: u64, interrupted: u64, seen: &Seen) -> Result<MemSocket, AllocError> {
-        Ok(MemSocket {
+    pub(crate) fn new(full: u64, interrupted: u64, seen: &'a Seen) -> MemSocket<'a> {
+        MemSocket {
             full,
             interrupted,
-            seen: seen.share()?,
-        })
+            seen,
+        }
     }
 
     // Whether the call is interrupted.
@@ -202,7 +199,7 @@ impl MemSocket {
     }
 }
 
-impl Socket for MemSocket {
+impl Socket for MemSocket<'_> {
     fn send_to(&mut self, bytes: &[u8], to: SocketAddr) -> io::Result<usize> {
         let _ = self.seen.tries.fetch_add(1, Ordering::Relaxed);
         if self.interrupts() {

@@ -1,0 +1,6 @@
+mod host;
+mod loopback;
+mod memory;
+mod ports;
+mod system;
+mod waits;
