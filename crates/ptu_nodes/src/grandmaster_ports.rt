@@ -12,8 +12,8 @@ use crate::journal::Journal;
 use ptu_grandmaster::{Gm, SIGNALING_PORT};
 use ptu_outside::MemPort;
 use ptu_units::message_types::DELAY_REQ;
-use ptu_units::{OutOfMemory, low_nibble};
 use ptu_units::sizes::{DELAY_RESP_LENGTH, LONGEST_SIGNALING};
+use ptu_units::{OutOfMemory, low_nibble};
 
 /// Makes room in the port of this index for this many datagrams more, and for this many octets in
 /// them.
@@ -62,10 +62,7 @@ fn may_be_delay_req(octets: &[u8]) -> bool
 ///
 /// # Errors
 /// `OutOfMemory`. The grandmaster goes on as before, with nothing more in its ports.
-#[tactic(
-    auto,
-    using(crate::proofs::Rooms::room_of_responses, crate::proofs::Rooms::room_of_reply)
-)]
+#[tactic(auto, using(crate::proofs::Rooms::room_of_responses, crate::proofs::Rooms::room_of_reply))]
 pub fn reserve_answer(gm: &mut Gm<MemPort>, octets: &[u8]) -> Result<(), OutOfMemory>
     ensures room { OnOk result ((config : GmConfig) →
         HasRoomToAnswer (heard_in config octets.now) gm.new) }
