@@ -243,7 +243,7 @@ module _ {P C : Type 0} (ports : Ports P) (clocks : Clocks C) where
         missed = o.took.failed;
         answers = λ opening past stood.
             subst (λ l. Handled ports l 0 o.took.failed o.took.failed port port')
-            (ap (λ order. order_answers (situation_at (standing_as daemon.gm opening past) before tally) order r.events) o.is) (spoken_handled port port' o.spoken o.took);
+            (ap (λ order. order_answers (situation_at (standing_as daemon.gm opening past) before tally) order r.events) o.is) (spoken_handled ports port port' o.spoken o.took);
       }
 
   still_given : (told told' told'' : Option (List Arrival)) (arrivals : List Arrival) → told'' ≡ told' → Gave told told' arrivals → Gave told told'' arrivals
@@ -283,7 +283,7 @@ module _ {P C : Type 0} (ports : Ports P) (clocks : Clocks C) where
       both = subst (Answered before tally old new port port' obeyed (0 + f.sent) (o.took.failed + f.failed) (o.took.failed + f.missed)) o.is (
         f.ran,
         λ opening past stood.
-            handled_more ports port middle port' [] _ 0 o.took.failed o.took.failed f.sent f.failed f.missed (spoken_handled port middle o.spoken o.took) (f.answers opening past stood),
+            handled_more ports port middle port' [] _ 0 o.took.failed o.took.failed f.sent f.failed f.missed (spoken_handled ports port middle o.spoken o.took) (f.answers opening past stood),
       )
 
   -- there is no control port
