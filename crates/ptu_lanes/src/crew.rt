@@ -94,6 +94,33 @@ fn sending_lanes<C: Clock, L: Rates>(
     }
 }
 
+// The ports and clocks that were opened, with those of lanes that have left in their places.
+fn given_back<P: Port, C: Clock, L: Rates>(
+    opened: Opened<P, C>,
+    event: EventLane<P, C>,
+    sending: SendingLanes<C, L>,
+) -> Opened<P, C>
+    ensures { result ≡ record opened {
+      p5 = event.port;
+      c1 = event.clock;
+      c2 = sending.first.clock;
+      c3 = sending.second.clock;
+      c4 = sending.third.clock;
+      c5 = sending.fourth.clock;
+    } }
+{
+    let (_, (c2, c3, c4, c5)) = sending.into_parts();
+    Opened {
+        p5: event.port,
+        c1: event.clock,
+        c2,
+        c3,
+        c4,
+        c5,
+        ..opened
+    }
+}
+
 // How many lanes turn tables.
 fn sender_count(settings: &GmSettings) -> usize
     ensures value { result ≡ settings.now.senders }
@@ -398,17 +425,7 @@ where
         if self.gate.get().is_some() {
             let event = event.called(self.base.rt).left()?;
             let sending = self.left_sending(sending)?;
-            let (_, (c2, c3, c4, c5)) = sending.into_parts();
-            let back = Opened {
-                p5: event.port,
-                c1: event.clock,
-                c2,
-                c3,
-                c4,
-                c5,
-                ..opened
-            };
-            return Ok(Done::Refused(back, control));
+            return Ok(Done::Refused(given_back(opened, event, sending), control));
         }
         let (seat, seats) = self.open(
             settings, ledgers, opened.p0, opened.p1, opened.p2, opened.p3,

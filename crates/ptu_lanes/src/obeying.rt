@@ -298,8 +298,8 @@ impl<P: Port + Send, L: Rates, G: Ledger, R: Ledger, W: Wait> Service<'_, P, L, 
         Ok(lane)
     }
 
-    // Obeys the order that came in a round, behind its meeting. The other lanes wait for that, where
-    // it is not the end.
+    // Obeys the order that came in a round, behind its meeting. The other lanes wait for that,
+    // where it is not the end.
     fn obey_any<C: Clock>(
         &self,
         rounds: &Rounds,
@@ -322,8 +322,8 @@ impl<P: Port + Send, L: Rates, G: Ledger, R: Ledger, W: Wait> Service<'_, P, L, 
         Ok(lane)
     }
 
-    // A round of the lane that takes Signaling, with its meeting. An order that changes something is
-    // obeyed behind that.
+    // A round of the lane that takes Signaling, with its meeting. An order that changes something
+    // is obeyed behind that.
     fn take_signaling_round<C: Clock>(
         &self,
         settings: &GmSettings,
@@ -347,9 +347,10 @@ impl<P: Port + Send, L: Rates, G: Ledger, R: Ledger, W: Wait> Service<'_, P, L, 
         Ok(lane)
     }
 
-    /// The rounds of the lane that takes Signaling, with a meeting after each: all, or less where an
-    /// order stops them. A change of the settings comes before the round of its number, and has a
-    /// meeting behind it. An order that changes something is obeyed behind the meeting of its round.
+    /// The rounds of the lane that takes Signaling, with a meeting after each: all, or less where
+    /// an order stops them. A change of the settings comes before the round of its number, and has
+    /// a meeting behind it. An order that changes something is obeyed behind the meeting of its
+    /// round.
     ///
     /// # Errors
     /// `OutOfMemory`, with the lane dropped: after the round in which it or another lane gave up.

@@ -42,8 +42,8 @@ pub struct Totals {
 /// How a grandmaster has ended that was to be served by lanes.
 #[derive(Drop)]
 pub enum Ended<P: Port, C> {
-    /// Lanes did all rounds, or less where an order stopped them. Here are the ports and clocks, the
-    /// control port, where there is one, and the last numbers.
+    /// Lanes did all rounds, or less where an order stopped them. Here are the ports and clocks,
+    /// the control port, where there is one, and the last numbers.
     Served(Opened<P, C>, Option<P>, Totals),
     /// A lane was refused its thread, before the first datagram was taken. Here are the ports and
     /// clocks as they were opened.
@@ -201,7 +201,8 @@ where
     requires range { IsGmInRange settings.now }
     requires senders { 1 ≤ settings.now.senders }
     requires config { base.now.config.now ≡ L.config }
-    ensures { IfOk result (HasEnded P.Port C.Clock settings.now base.now.config.now opened control) }
+    ensures { IfOk result
+        (HasEnded P.Port C.Clock settings.now base.now.config.now opened control) }
 {
     let gate = OnceLock::new();
     let done = call_all::<P, C, L, G, R, W>(
@@ -250,14 +251,14 @@ where
 /// Serves a grandmaster of these settings over these ports and clocks, in rounds, by lanes that
 /// work side by side in each round. Lane 0 takes up to 64 datagrams of the general channel and
 /// answers Signaling, and behind that one datagram of the control port, where there is one; lane 1
-/// takes up to 64 of the event channel and answers Delay_Reqs; lane `2 + i` turns the tables `j` with
-/// `j` mod `senders` = `i`. Lane `k` has clock `k`. Lane 0 is on this thread, and each other has one
-/// of its own. All meet after each round. Lane 1 comes last:
-/// once all others are there, it waits by port 5 until a datagram is there or a message may be due,
-/// and they sleep meanwhile. The round of the number `change_round` begins with a change of the
-/// capacity to `new_capacity` at a moment of clock 0. An order that changes something is obeyed
-/// behind the meeting of its round, by lane 0, while all others wait; a `stop` ends all. A send or a
-/// receive that fails is counted. Gives the ports and clocks back, with the last numbers.
+/// takes up to 64 of the event channel and answers Delay_Reqs; lane `2 + i` turns the tables `j`
+/// with `j` mod `senders` = `i`. Lane `k` has clock `k`. Lane 0 is on this thread, and each other
+/// has one of its own. All meet after each round. Lane 1 comes last: once all others are there, it
+/// waits by port 5 until a datagram is there or a message may be due, and they sleep meanwhile. The
+/// round of the number `change_round` begins with a change of the capacity to `new_capacity` at a
+/// moment of clock 0. An order that changes something is obeyed behind the meeting of its round, by
+/// lane 0, while all others wait; a `stop` ends all. A send or a receive that fails is counted.
+/// Gives the ports and clocks back, with the last numbers.
 ///
 /// All threads are made before the first datagram is taken. Where the system refuses one, or wants
 /// memory for it, no lane serves: no datagram is taken or sent and no moment is taken of a clock,

@@ -20,9 +20,9 @@ use std::time::{Clock, Instant};
 /// The UDP port numbers of the two channels.
 #[derive(Clone, Copy)]
 pub struct Numbers {
-    /// That of the event channel.
+    /// The UDP port number of the event channel.
     pub event: u16,
-    /// That of the general channel.
+    /// The UDP port number of the general channel.
     pub general: u16,
 }
 

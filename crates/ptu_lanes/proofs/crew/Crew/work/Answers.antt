@@ -12,11 +12,11 @@ returns-then-is_some g c =
     let sending = c.in_ok-sending.ensures begun.result c.start_all_sending-sending.ensures in
     let port : c.in_ok-event.event.port ≡ c.args.opened.p5 = ap (λ (l : EventLane _ _). l.port) (event ∙ c.new.ensures) in
     let clock : c.in_ok-event.event.clock ≡ c.args.opened.c1 = ap (λ (l : EventLane _ _). l.clock) (event ∙ c.new.ensures) in
-    let first : c.into_parts-c2.result.1.0 ≡ c.args.opened.c2 = c.into_parts-c2.ensures.clocks.0 ∙ ap (λ (s : SendingLanes _ _). s.first.clock) sending ∙ begun.ensures.clocks.0 in
-    let second : c.into_parts-c2.result.1.1 ≡ c.args.opened.c3 = c.into_parts-c2.ensures.clocks.1 ∙ ap (λ (s : SendingLanes _ _). s.second.clock) sending ∙ begun.ensures.clocks.1 in
-    let third : c.into_parts-c2.result.1.2 ≡ c.args.opened.c4 = c.into_parts-c2.ensures.clocks.2 ∙ ap (λ (s : SendingLanes _ _). s.third.clock) sending ∙ begun.ensures.clocks.2 in
-    let fourth : c.into_parts-c2.result.1.3 ≡ c.args.opened.c5 = c.into_parts-c2.ensures.clocks.3 ∙ ap (λ (s : SendingLanes _ _). s.fourth.clock) sending ∙ begun.ensures.clocks.3 in
-    (rw (port, clock, first, second, third, fourth) refl, refl)
+    let first : c.in_ok-sending.sending.first.clock ≡ c.args.opened.c2 = ap (λ (s : SendingLanes _ _). s.first.clock) sending ∙ begun.ensures.clocks.0 in
+    let second : c.in_ok-sending.sending.second.clock ≡ c.args.opened.c3 = ap (λ (s : SendingLanes _ _). s.second.clock) sending ∙ begun.ensures.clocks.1 in
+    let third : c.in_ok-sending.sending.third.clock ≡ c.args.opened.c4 = ap (λ (s : SendingLanes _ _). s.third.clock) sending ∙ begun.ensures.clocks.2 in
+    let fourth : c.in_ok-sending.sending.fourth.clock ≡ c.args.opened.c5 = ap (λ (s : SendingLanes _ _). s.fourth.clock) sending ∙ begun.ensures.clocks.3 in
+    (c.given_back.ensures ∙ rw (port, clock, first, second, third, fourth) refl, refl)
 
 pub returns : goal.returns
 returns g c =
