@@ -121,6 +121,7 @@ def class_and_slave(folder: Path, program: str) -> dict[str, Any]:
         return selections()[-1:] == [LOOPBACK] and all(it.status()["granted"] == 3 for it in (first, second))
 
     wait_for(is_served)
+    begun = len(selections()) - 1  # on a busy machine the second master may have been the first to be there
     before = [it.status() for it in (first, second)]
     answers = [first.say("class 110")]
     wait_for(lambda: selections()[-1:] == [SECOND_MASTER])
@@ -130,7 +131,7 @@ def class_and_slave(folder: Path, program: str) -> dict[str, Any]:
     slave.kill()
     slave.wait()
     ends = [it.stop() for it in (first, second)]
-    return {"answers": answers, "selections": selections(), "before": before, "after": after, "ends": ends}
+    return {"answers": answers, "selections": selections()[begun:], "before": before, "after": after, "ends": ends}
 
 
 class Clients:
