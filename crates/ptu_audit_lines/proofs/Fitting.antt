@@ -5,7 +5,7 @@ use Rattle.std.proofs.lemmas.Option.{slice_get_cases, slice_get_within, get_or_f
 use Rattle.std.proofs.lemmas.{List.{drop_more, drop_all}, List.Splits.{length-slice_split}}
 use Rattle.std.proofs.lemmas.List.Sums.{count_by-le-length}
 use Rattle.ptu_lines.specs.Words.{word_of, words_of}
-use Rattle.ptu_audit_lines.specs.Forms.{fit, is_in_place}
+use Rattle.ptu_audit_lines.specs.Forms.{fit, is_in_place, is_some_in_place}
 
 word_at : (line : List ℕ) (k : ℕ) → 1 ≤ k → word_of line k ≡ slice_get (words_of line) (k - 1)
 word_at line k le = grind arith
@@ -30,6 +30,10 @@ fit_next None None rest = true
 fit_next (Some place) (Some word) rest = is_in_place place word && rest
 fit_next _ _ rest = false
 
+fit_next-some : (place : List ℕ) (word : Option (List ℕ)) (rest : Bool) → fit_next (Some place) word rest ≡ (is_some_in_place place word && rest)
+fit_next-some place (Some word) rest = refl
+fit_next-some place None rest = refl
+
 fit_cut : (place word : Option (List ℕ)) (places words : List (List ℕ)) → fit (cut place places) (cut word words) ≡ fit_next place word (fit places words)
 fit_cut None None places words = refl
 fit_cut None (Some word) places words = refl
@@ -49,6 +53,17 @@ one_place form line k le =
 
 pub word_within : (line : List ℕ) (k : ℕ) (word : List ℕ) → 1 ≤ k → word_of line k ≡ Some word → k ≤ length (words_of line)
 word_within line k word le e = omega (arith, slice_get_within (words_of line) (k - 1) word (sym (word_at line k le) ∙ e))
+
+-- of a form that has a place there
+pub one_filled : (form line : List ℕ) (k : ℕ) (place : List ℕ) → 1 ≤ k → Some place ≡ word_of form k →
+    fit_from form line k ≡ (is_some_in_place place (word_of line k) && fit_from form line (k + 1))
+one_filled form line k place le is =
+    one_place form line k le ∙ ((λ i. fit_next (sym is i) (word_of line k) (fit_from form line (k + 1))) ∙ fit_next-some place (word_of line k) (fit_from form line (k + 1)))
+
+pub filled_within : (line : List ℕ) (k : ℕ) (place : List ℕ) (word : Option (List ℕ)) → 1 ≤ k → word_of line k ≡ word → is_some_in_place place word ≡ true →
+    k ≤ length (words_of line)
+filled_within line k place (Some word) le e is = word_within line k word le e
+filled_within line k place None le e is = absurd (cc is)
 
 -- a line has at most one word more than octets
 pub words_few : (line : List ℕ) → length (words_of line) ≤ length line + 1

@@ -15,6 +15,11 @@ is_in_place place word =
     else if bytes_eq place (codes "WORD") then true
     else bytes_eq word place
 
+-- there is a word that may
+abbrev pub is_some_in_place : List ℕ → Option (List ℕ) → Bool
+is_some_in_place place (Some word) = is_in_place place word
+is_some_in_place place None = false
+
 -- there are as many words as places, and each is in its place
 abbrev pub fit : List (List ℕ) → List (List ℕ) → Bool
 fit [] [] = true

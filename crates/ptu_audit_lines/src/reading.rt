@@ -12,7 +12,7 @@ use crate::words::{
     log_outside_field, no_word, number_field,
 };
 use ptu_history::Client;
-use ptu_lines::WordList;
+use ptu_lines::{KEPT_WORDS, WordList};
 use ptu_units::sizes::LONGEST_DATAGRAM;
 
 fn granted(line: &WordList) -> Option<Decision>
@@ -453,7 +453,8 @@ fn end<'a>(line: &WordList) -> Option<ReportLine<'a>>
 pub fn read_line<'a>(line: &[u8], buffer: &'a mut [u8; LONGEST_DATAGRAM]) -> Option<ReportLine<'a>>
     ensures { result ≡ specs.line_of line.now }
 {
-    let words = WordList::new(line);
+    let mut ends = [0; KEPT_WORDS];
+    let words = WordList::new(line, &mut ends);
     match numbered(&words, buffer) {
         Some(line) => Some(line),
         None => end(&words),

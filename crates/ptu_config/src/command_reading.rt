@@ -8,7 +8,7 @@ ghost use Rattle.ptu_lines.specs.Words.{number_within};
 ghost use Rattle.ptu_units.specs.Limits.{least_capacity, greatest_capacity};
 
 use crate::command::{Cause, Command};
-use ptu_lines::{WordList, clock, number};
+use ptu_lines::{KEPT_WORDS, WordList, clock, number};
 use ptu_units::Capacity;
 
 // The octets without a newline at their end.
@@ -112,7 +112,8 @@ pub fn read_command(key: u64, octets: &[u8]) -> Option<Result<Command, Cause>>
     ensures { result ≡ order_asked key octets.now }
 {
     let line = request_line(octets);
-    let words = WordList::new(line);
+    let mut ends = [0; KEPT_WORDS];
+    let words = WordList::new(line, &mut ends);
     if is_known(key, line, &words) {
         Some(command(&words))
     } else {

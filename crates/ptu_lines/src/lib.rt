@@ -24,7 +24,7 @@ pub use forms::{clock, ip, log, number, octets};
 pub use lent_octets::LentOctets;
 pub use line::LineText;
 pub use line_reader::LineReader;
-pub use line_words::{WordList, word};
+pub use line_words::{KEPT_WORDS, WordList, word};
 pub use lines::Lines;
 pub use part::LinePart;
 pub use text::Text;

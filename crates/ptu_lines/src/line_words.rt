@@ -53,15 +53,16 @@ pub fn word(line: &[u8], k: usize) -> Option<&[u8]>
     part(line, b' ', k - 1)
 }
 
-/// How many words have their ends kept.
-const MOST_WORDS: usize = 16;
+/// How many words of a line have their ends kept.
+pub const KEPT_WORDS: usize = 16;
 
 /// A line that was cut once into its words, which stand between its spaces: an empty line is one
-/// empty word. A clause sees it as the line.
+/// empty word. A clause sees it as the line. The ends of its words stand in lent room, so that they
+/// are copied nowhere.
 #[derive(Drop)]
 pub struct WordList<'a> {
     line: &'a [u8],
-    ends: [usize; MOST_WORDS],
+    ends: &'a [usize; KEPT_WORDS],
     count: usize,
 }
 
@@ -73,15 +74,15 @@ impl<'a> Model for WordList<'a> {
 
     ghost view = { λ w. w.line.now };
 
-    ghost invariant = { λ w. HasEnds w.line.now w.ends w.count };
+    ghost invariant = { λ w. HasEnds w.line.now w.ends.now w.count };
 }
 
 // Keeps the end of the word at a place, if it is one of the first sixteen.
-fn keep_end(ends: &mut [usize; MOST_WORDS], place: usize, end: usize)
+fn keep_end(ends: &mut [usize; KEPT_WORDS], place: usize, end: usize)
     ensures kept { place < 16 → slice_index ends.new place ≡ end }
     ensures before { (k : ℕ) → k < place → slice_index ends.new k ≡ slice_index ends.old k }
 {
-    if place < MOST_WORDS {
+    if place < KEPT_WORDS {
         ends[place] = end;
     }
 }
@@ -107,7 +108,7 @@ fn next_space(text: &[u8]) -> Option<usize>
 
 // Finds the ends of the first words of a line, and how many words it has.
 #[inline(always)]
-fn find_ends(line: &[u8], ends: &mut [usize; MOST_WORDS]) -> usize
+fn find_ends(line: &[u8], ends: &mut [usize; KEPT_WORDS]) -> usize
     ensures { HasEnds line.now ends.new result }
 {
     let mut count = 0;
@@ -123,13 +124,12 @@ fn find_ends(line: &[u8], ends: &mut [usize; MOST_WORDS]) -> usize
 }
 
 impl<'a> WordList<'a> {
-    /// The words of a line.
+    /// The words of a line. The room is for their ends, whatever stood in it.
     #[inline(always)]
-    pub fn new(line: &'a [u8]) -> WordList<'a>
+    pub fn new(line: &'a [u8], ends: &'a mut [usize; KEPT_WORDS]) -> WordList<'a>
         ensures { result ≡ line.now }
     {
-        let mut ends = [0; MOST_WORDS];
-        let count = find_ends(line, &mut ends);
+        let count = find_ends(line, ends);
         WordList { line, ends, count }
     }
 
@@ -148,7 +148,7 @@ impl<'a> WordList<'a> {
         if k == 0 || k > self.count {
             return None;
         }
-        if k > MOST_WORDS {
+        if k > KEPT_WORDS {
             return word(self.line, k);
         }
         let start = if k == 1 { 0 } else { self.ends[k - 2] + 1 };

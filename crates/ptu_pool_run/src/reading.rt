@@ -10,7 +10,7 @@ use crate::Pool;
 use crate::command::PoolCommand;
 use crate::pool_set::MOST;
 use crate::verb::PoolVerb;
-use ptu_lines::{LineCause, WordList};
+use ptu_lines::{KEPT_WORDS, LineCause, WordList};
 use ptu_script::fields::{
     bits_field, capacity_field, ip_field, moment_field, number_field, octets_field,
 };
@@ -108,7 +108,8 @@ fn command<'a>(
         ≡ pool_command_by (pool_verb_named (unwrap_or (word_of line.now 1) [])) line.now }
     ensures within { IfOk result IsPoolCommandInRange }
 {
-    let words = WordList::new(line);
+    let mut ends = [0; KEPT_WORDS];
+    let words = WordList::new(line, &mut ends);
     match PoolVerb::of(words.word(1).unwrap_or(&[])) {
         None => Err(LineCause::Word),
         Some(verb) if words.count() == verb.count() => fields(verb, &words, room),

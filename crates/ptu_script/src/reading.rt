@@ -11,7 +11,7 @@ use crate::command::Command;
 use crate::events::{capacity, class, deliver, flag, judge, rx, stop, tick, turn};
 use crate::setups::{gm, master, new_slave};
 use crate::verb::Verb;
-use ptu_lines::{LineCause, WordList};
+use ptu_lines::{KEPT_WORDS, LineCause, WordList};
 use ptu_units::sizes::LONGEST_DATAGRAM;
 
 // What stands behind the first word.
@@ -60,7 +60,8 @@ fn command<'a>(line: &[u8], room: &'a mut [u8; LONGEST_DATAGRAM]) -> Result<Comm
         ≡ command_by (verb_named (unwrap_or (word_of line.now 1) [])) line.now }
     ensures within { IfOk result IsCommandInRange }
 {
-    let words = WordList::new(line);
+    let mut ends = [0; KEPT_WORDS];
+    let words = WordList::new(line, &mut ends);
     match Verb::of(words.word(1).unwrap_or(&[])) {
         None => Err(LineCause::Word),
         Some(verb) if is_counted(verb, &words) => fields(verb, &words, room),

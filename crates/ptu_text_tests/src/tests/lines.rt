@@ -1,7 +1,7 @@
 ghost use Rattle.std.specs.Prelude.{◌<◌, None};
 ghost use Rattle.ptu_lines.specs.{Lines.{reader_of, source_of}, Reading.{AgreesOnEnd}};
 
-use ptu_lines::{Lines, LinesFault, WordList, log, number, octets, word};
+use ptu_lines::{KEPT_WORDS, Lines, LinesFault, WordList, log, number, octets, word};
 use ptu_outside::{Failed, MemSource, Source};
 use std::alloc::{AllocError, Global};
 use std::test::Fail;
@@ -124,8 +124,9 @@ const WORDS: [Option<&str>; 6] = [None, Some("rx"), Some(""), Some("1"), Some(""
 
 #[test]
 fn words_stand_between_spaces(rt: HostRuntime) {
+    let mut ends = [0; KEPT_WORDS];
     let line = b"rx  1 ";
-    let words = WordList::new(line);
+    let words = WordList::new(line, &mut ends);
     assert!(rt; words.count() == 4);
     for (k, wanted) in WORDS.iter().enumerate() {
         let wanted = wanted.map(str::as_bytes);
@@ -133,7 +134,7 @@ fn words_stand_between_spaces(rt: HostRuntime) {
     }
     // Those behind the sixteenth are found, too.
     let line = b"1 2 3 4 5 6 7 8 9 10 11 12 13 14 15 16 17 18";
-    let words = WordList::new(line);
+    let words = WordList::new(line, &mut ends);
     assert!(rt; words.count() == 18 && words.word(18) == Some(b"18"));
     for k in [1, 15, 16, 17, 18, 19] {
         assert!(rt; words.word(k) == word(line, k), "word {k}");
