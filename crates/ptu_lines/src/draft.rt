@@ -9,6 +9,7 @@ use crate::line::LineText;
 use ptu_units::OutOfMemory;
 use std::alloc::Global;
 use std::marker::Model;
+use std::mem::swap;
 
 /// The octets of texts that are done, and behind them those of one in the making.
 #[derive(Drop)]
@@ -101,6 +102,16 @@ impl Draft {
         ensures { self.new ≡ record { done = self.old.done ++ self.old.text; text = [] } }
     {
         self.start = self.octets.len();
+    }
+
+    /// Exchanges the texts with those of another draft. The room for digits stays where it is, so
+    /// that few words are moved.
+    pub fn swap_texts(&mut self, other: &mut Draft)
+        ensures given { other.new ≡ self.old }
+        ensures taken { self.new ≡ other.old }
+    {
+        swap(&mut self.octets, &mut other.octets);
+        swap(&mut self.start, &mut other.start);
     }
 
     /// Drops the text in the making.

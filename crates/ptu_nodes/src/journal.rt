@@ -11,7 +11,6 @@ use ptu_report_lines::{Decision, ReportLine, SentLine, SentList, SentRef, Statem
 use ptu_units::OutOfMemory;
 use std::alloc::Global;
 use std::marker::Model;
-use std::mem::swap;
 
 /// The report on a script in the making: the number of the script's line, the texts of that line,
 /// the datagrams that were sent so far, in order, and of how many asks it was said so far that they
@@ -132,7 +131,7 @@ impl Journal {
         ensures given { texts.new ≡ self.old.texts }
         ensures rest { self.new ≡ record self.old { texts = texts.old } }
     {
-        swap(&mut self.texts, texts);
+        self.texts.swap_with(texts);
     }
 
     /// The datagrams that were sent so far, in order.

@@ -8,6 +8,7 @@ use ptu_lines::{Draft, Text};
 use ptu_units::OutOfMemory;
 use std::alloc::Global;
 use std::marker::Model;
+use std::mem::swap;
 
 /// Texts of output, each with the 0A at its end where it is a line. Their octets stand in one room,
 /// which is kept for later ones. A clause sees their octets as a list.
@@ -45,6 +46,15 @@ impl Texts {
     {
         self.draft.clear();
         self.spans.clear();
+    }
+
+    /// Exchanges the texts with these.
+    pub fn swap_with(&mut self, other: &mut Texts)
+        ensures given { other.new ≡ self.old }
+        ensures taken { self.new ≡ other.old }
+    {
+        self.draft.swap_texts(&mut other.draft);
+        swap(&mut self.spans, &mut other.spans);
     }
 
     /// Adds the text of the value.
