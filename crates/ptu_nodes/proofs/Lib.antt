@@ -5,6 +5,7 @@ pub mod Lengths
 pub mod Items
 pub mod ShedCounts
 pub mod Surely
+pub mod Rooms
 pub mod GrandmasterDone
 pub mod GrandmasterTurns
 pub mod GrandmasterChanges

@@ -31,7 +31,7 @@ use Rattle.ptu_grandmaster.specs.declared.outcome.Taken.TheVariants.{Ignored, De
 use Rattle.ptu_grandmaster.specs.Gm.{KeptGm, port_at, table_at, with_port, with_table}
 use Rattle.ptu_grandmaster.specs.Outcomes.{answers_seen, decision_seen, decisions_seen, item_seen}
 use Rattle.ptu_grandmaster.specs.Taking.{IsAnswerTo, OnAsked, OnDelay, OnIgnored, Replies, Responds}
-use Rattle.ptu_nodes.specs.GrandmasterPorts.{HasReplyRoom, HasRoom}
+use Rattle.ptu_nodes.specs.GrandmasterPorts.{HasReplyRoom, HasResponseRoom, HasRoom, HasRoomToAnswer}
 use Rattle.ptu_nodes.specs.GrandmasterStatements.{IsAnswerSent, IsReplySent, IsSent}
 use Rattle.ptu_nodes.specs.Standing.{AreSure}
 use Rattle.ptu_nodes.proofs.{GrandmasterPorts.{table_by, with_by}, Items.{AreFew}}
@@ -118,11 +118,17 @@ sure_of_response (step.TooSoon earliest) d port none room is = sure_within port 
 
 -- ---- no send fails
 
-room_by : (zero one two : Bool) (gm : KeptGm MemoryPort) → HasReplyRoom gm → HasRoom 1 54 (table_by zero one two gm).port
-room_by true one two gm room = room.tables.0
-room_by false true two gm room = room.tables.1
-room_by false false true gm room = room.tables.2
-room_by false false false gm room = room.tables.3
+room_by : (zero one two : Bool) (gm : KeptGm MemoryPort) → HasResponseRoom gm → HasRoom 1 54 (table_by zero one two gm).port
+room_by true one two gm room = room.0
+room_by false true two gm room = room.1
+room_by false false true gm room = room.2
+room_by false false false gm room = room.3
+
+-- with room for either answer there is room for the one that comes
+pub room_for_one : (h : Result Heard GmReason) (gm : KeptGm MemoryPort) → HasReplyRoom gm → HasRoomToAnswer h gm
+room_for_one (Ok (heard.DelayReq header)) gm room = room.tables
+room_for_one (Ok (heard.Asks header items)) gm room = room.reply
+room_for_one (Err reason) gm room = tt
 
 answer_sent : (answered : Answered) → failed_by answered ≡ 0 → IsAnswerSent answered
 answer_sent (answers.Sent at) none = tt
@@ -160,7 +166,7 @@ module _ (ports : Ports MemoryPort) (to : (p : MemoryPort) (ds : List Departure)
       (sure_within gm1.reply ds count octets sure.4 room.0 room.1 many (omega (arith, octets_within 428 ds (cancel_octets config before leases), many, wide))) in
       (both.0, sure_replied gm1 gm2 sure tables both.1)
 
-  delay_surely : (config : GmConfig) (from_ip : ℕ) (header : Header) (answered : Answered) (gm1 gm2 : KeptGm MemoryPort) → AreSure gm1 → HasReplyRoom gm1 →
+  delay_surely : (config : GmConfig) (from_ip : ℕ) (header : Header) (answered : Answered) (gm1 gm2 : KeptGm MemoryPort) → AreSure gm1 → HasResponseRoom gm1 →
       (let c = client_of from_ip header in let j = table_of c in
       Responds ports config c header answered (table_at j gm1).port (table_at j gm2).port × (gm2 ≡ with_table j (table_at j gm2) gm1)) →
       IsAnswerSent answered × AreSure gm2
@@ -197,7 +203,7 @@ module _ (ports : Ports MemoryPort) (to : (p : MemoryPort) (ds : List Departure)
       by sending.Nothing h = (tt, ap (λ (p : MemoryPort). p.failing_sends) h ∙ none)
 
   -- of a datagram that was taken
-  pub surely_taken : (config : GmConfig) (from_ip : ℕ) (h : Result Heard GmReason) (taken : Taken) (gm1 gm2 : KeptGm MemoryPort) → AreSure gm1 → HasReplyRoom gm1 →
+  pub surely_taken : (config : GmConfig) (from_ip : ℕ) (h : Result Heard GmReason) (taken : Taken) (gm1 gm2 : KeptGm MemoryPort) → AreSure gm1 → HasRoomToAnswer h gm1 →
       AreFew h → IsAnswerTo h taken → OnIgnored taken (gm2 ≡ gm1) →
       OnDelay h taken (λ header answered. let c = client_of from_ip header in let j = table_of c in
       Responds ports config c header answered (table_at j gm1).port (table_at j gm2).port × (gm2 ≡ with_table j (table_at j gm2) gm1)) →
@@ -210,6 +216,6 @@ module _ (ports : Ports MemoryPort) (to : (p : MemoryPort) (ds : List Departure)
   surely_taken config from_ip (Ok (heard.DelayReq header)) (Delay answered) gm1 gm2 sure room few answer ignored delay reply tables =
       delay_surely config from_ip header answered gm1 gm2 sure room delay
   surely_taken config from_ip (Ok (heard.Asks header items)) (Asked outcomes sent) gm1 gm2 sure room few answer ignored delay reply tables =
-      let both = reply_surely config from_ip header items outcomes sent gm1.reply gm2.reply sure.4 room.reply answer.0 few reply in
+      let both = reply_surely config from_ip header items outcomes sent gm1.reply gm2.reply sure.4 room answer.0 few reply in
       (both.0, sure_replied gm1 gm2 sure tables both.1)
   surely_taken config from_ip _ _ gm1 gm2 sure room few answer ignored delay reply tables = absurd answer

@@ -10,7 +10,7 @@ ghost use Rattle.ptu_nodes.specs.{Doing.{HasActed, HasDone}, GrandmasterPorts.{r
 ghost use Rattle.ptu_nodes.specs.Standing as standing;
 ghost use Rattle.ptu_nodes.specs.Standing.{IsGrandmasterNode, StandsAsGrandmaster};
 
-use crate::grandmaster_ports::{hand_over_all, reserve, reserve_replies};
+use crate::grandmaster_ports::{hand_over_all, reserve, reserve_answer};
 use crate::grandmaster_statements::{say_shed, say_taken};
 use crate::journal::Journal;
 use ptu_grandmaster::{Gm, SIGNALING_PORT};
@@ -135,7 +135,7 @@ impl GrandmasterNode {
             HasDone (StandsAsGrandmaster self.new) self.old.ip (datagram_deed g at from octets.now)
             journal.old journal.new) }
     {
-        reserve_replies(&mut self.gm)?;
+        reserve_answer(&mut self.gm, octets)?;
         let taken = self.gm.take(at, from, octets)?;
         say_taken(&taken, journal)?;
         self.gm.give_back(taken);

@@ -1,15 +1,19 @@
 //! The ports of a grandmaster of a script.
 
-ghost use Rattle.std.specs.Prelude.{◌≡◌, ◌<◌, [], OnOk};
+ghost use Rattle.std.specs.Prelude.{◌≡◌, ◌<◌, ◌==◌, [], OnOk};
+ghost use Rattle.ptu_units.specs.Number.{low_nibble_at};
+ghost use Rattle.ptu_profile.specs.declared.grandmaster.GmConfig.{GmConfig};
+ghost use Rattle.ptu_gm_messages.specs.Items.{heard_in};
 ghost use Rattle.ptu_grandmaster.specs.Gm.{port_at, with_port};
-ghost use Rattle.ptu_nodes.specs.GrandmasterPorts.{GoesOn, HasRoom, in_ports};
+ghost use Rattle.ptu_nodes.specs.GrandmasterPorts.{GoesOn, HasResponseRoom, HasRoom, HasRoomToAnswer, in_ports};
 ghost use Rattle.ptu_nodes.specs.{Noted.{with_handed}, Standing.{AreIdle, AreSure}};
 
 use crate::journal::Journal;
 use ptu_grandmaster::{Gm, SIGNALING_PORT};
 use ptu_outside::MemPort;
-use ptu_units::OutOfMemory;
+use ptu_units::message_types::DELAY_REQ;
 use ptu_units::sizes::{DELAY_RESP_LENGTH, LONGEST_SIGNALING};
+use ptu_units::{OutOfMemory, low_nibble};
 
 /// Makes room in the port of this index for this many datagrams more, and for this many octets in
 /// them.
@@ -33,15 +37,9 @@ pub fn reserve(
     gm.ports(port).reserve(datagrams, octets)
 }
 
-/// Makes room for the one datagram that may answer another: a Delay_Resp in the port of each table,
-/// or a Signaling in its own.
-///
-/// # Errors
-/// `OutOfMemory`. The grandmaster goes on as before, with nothing more in its ports.
-pub fn reserve_replies(gm: &mut Gm<MemPort>) -> Result<(), OutOfMemory>
-    ensures tables { OnOk result ((HasRoom 1 54 gm.new.s0.port) × (HasRoom 1 54 gm.new.s1.port)
-        × (HasRoom 1 54 gm.new.s2.port) × (HasRoom 1 54 gm.new.s3.port)) }
-    ensures reply { OnOk result (HasRoom 1 428 gm.new.reply) }
+// Makes room for a Delay_Resp in the port of each table.
+fn reserve_responses(gm: &mut Gm<MemPort>) -> Result<(), OutOfMemory>
+    ensures room { OnOk result (HasResponseRoom gm.new) }
     ensures goes_on { GoesOn gm.old gm.new }
     ensures idle { AreIdle gm.old → AreIdle gm.new }
     ensures sure { AreSure gm.old → AreSure gm.new }
@@ -49,8 +47,34 @@ pub fn reserve_replies(gm: &mut Gm<MemPort>) -> Result<(), OutOfMemory>
     reserve(gm, 0, 1, DELAY_RESP_LENGTH)?;
     reserve(gm, 1, 1, DELAY_RESP_LENGTH)?;
     reserve(gm, 2, 1, DELAY_RESP_LENGTH)?;
-    reserve(gm, 3, 1, DELAY_RESP_LENGTH)?;
-    reserve(gm, SIGNALING_PORT, 1, LONGEST_SIGNALING)
+    reserve(gm, 3, 1, DELAY_RESP_LENGTH)
+}
+
+// Whether the datagram may be a Delay_Req, by the messageType in its first octet.
+fn may_be_delay_req(octets: &[u8]) -> bool
+    ensures { result ≡ (low_nibble_at octets.now 0 == 1) }
+{
+    !octets.is_empty() && low_nibble(octets, 0) == DELAY_REQ
+}
+
+/// Makes room for the one datagram that may answer this one: a Delay_Resp in the port of each
+/// table, or a Signaling in its own.
+///
+/// # Errors
+/// `OutOfMemory`. The grandmaster goes on as before, with nothing more in its ports.
+#[tactic(auto, using(crate::proofs::Rooms::room_of_responses, crate::proofs::Rooms::room_of_reply))]
+pub fn reserve_answer(gm: &mut Gm<MemPort>, octets: &[u8]) -> Result<(), OutOfMemory>
+    ensures room { OnOk result ((config : GmConfig) →
+        HasRoomToAnswer (heard_in config octets.now) gm.new) }
+    ensures goes_on { GoesOn gm.old gm.new }
+    ensures idle { AreIdle gm.old → AreIdle gm.new }
+    ensures sure { AreSure gm.old → AreSure gm.new }
+{
+    if may_be_delay_req(octets) {
+        reserve_responses(gm)
+    } else {
+        reserve(gm, SIGNALING_PORT, 1, LONGEST_SIGNALING)
+    }
 }
 
 // Hands over what stands in the port of this index, and clears it.

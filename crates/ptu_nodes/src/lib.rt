@@ -9,5 +9,5 @@ mod grandmaster_statements;
 mod journal;
 
 pub use grandmaster_node::{GrandmasterNode, config_of};
-pub use grandmaster_ports::{hand_over_all, reserve, reserve_replies};
+pub use grandmaster_ports::{hand_over_all, reserve, reserve_answer};
 pub use journal::Journal;

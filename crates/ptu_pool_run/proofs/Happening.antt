@@ -20,7 +20,7 @@ use Rattle.ptu_nodes.specs.GrandmasterPorts.{HasReplyRoom, HasRoom, in_ports}
 use Rattle.ptu_nodes.specs.{GrandmasterStatements.{IsSent}, Standing.{AreIdle, AreSure, setup_config}}
 use Rattle.ptu_nodes.proofs.GrandmasterReceipts.{sends_heard, told_all}
 use Rattle.ptu_nodes.proofs.{GrandmasterTurns.{sends_turned}, Items.{few_heard}}
-use Rattle.ptu_nodes.proofs.Surely.{surely_taken, surely_turned}
+use Rattle.ptu_nodes.proofs.Surely.{room_for_one, surely_taken, surely_turned}
 use Rattle.ptu_pool_run.specs.declared.output.PoolLine.TheVariants as lines
 use Rattle.ptu_pool_run.specs.Output.{pool_line_text}
 use Rattle.ptu_pool_run.specs.Ports.{AreAllIdle, AreAllSure, AreOthersSame, GoOn, GoOnIdle, sent_texts}
@@ -43,7 +43,7 @@ module _ (ports : Ports MemoryPort) (tells : (p : MemoryPort) → ports.sent p �
   took_surely : (t from : ℕ) (octets : List ℕ) (taken : Taken) (old new : KeptGm MemoryPort) → AreSure old → HasReplyRoom old →
       TookDatagram ports t from octets taken old new → IsSent taken × AreSure new
   took_surely t from octets taken old new sure room took =
-      surely_taken ports to from_sure old.config from (heard_in old.config octets) taken old new sure room (few_heard old.config octets) took.answer took.ignored took.delay took.reply took.tables
+      surely_taken ports to from_sure old.config from (heard_in old.config octets) taken old new sure (room_for_one (heard_in old.config octets) old room) (few_heard old.config octets) took.answer took.ignored took.delay took.reply took.tables
 
   turn_surely : (t table : ℕ) (turned : TableTurned) (old new : KeptGm MemoryPort) → AreSure old →
       HasRoom (length (table_at table old).rows) (length (table_at table old).rows * 64) (table_at table old).port →
