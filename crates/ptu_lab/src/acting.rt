@@ -23,6 +23,7 @@ impl Node {
     ///
     /// # Errors
     /// `OutOfMemory`. Nothing is said of the lab then: the run ends.
+    #[inline(always)]
     pub fn act(
         &mut self,
         at: Moment,
@@ -88,6 +89,7 @@ impl Lab {
     ///
     /// # Errors
     /// `OutOfMemory`. Nothing is said of the lab then: the run ends.
+    #[inline(never)]
     pub fn deliver(
         &mut self,
         at: Moment,

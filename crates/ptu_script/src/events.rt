@@ -159,6 +159,7 @@ fn handed(line: &WordList) -> Result<(Moment, u32, u32), LineCause>
 /// # Errors
 /// `Field(k)` for the first word k of another form or out of its range. The content of the room is
 /// not said then.
+#[inline(always)]
 #[tactic(auto, unfolding(crate::specs::Command::fields_in))]
 pub fn rx<'a>(
     line: &WordList,

@@ -55,6 +55,7 @@ fn is_counted(verb: Verb, line: &WordList) -> bool
 }
 
 // The command of a line that is no comment.
+#[inline(always)]
 fn command<'a>(line: &[u8], room: &'a mut [u8; LONGEST_DATAGRAM]) -> Result<Command<'a>, LineCause>
     ensures value { result
         ≡ command_by (verb_named (unwrap_or (word_of line.now 1) [])) line.now }
