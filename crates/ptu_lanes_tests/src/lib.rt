@@ -1,5 +1,4 @@
-//! Tests of rounds of lanes, of how lanes meet, and of ports in two steps, by what their crates
-//! export.
+//! Tests of rounds of lanes and of ports in two steps, by what their crates export.
 #![tactic(auto)]
 
 #[cfg(test)]

@@ -1,3 +1,2 @@
 mod lanes;
-mod meeting;
 mod two_step_ports;

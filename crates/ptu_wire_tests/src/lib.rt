@@ -1,4 +1,4 @@
-//! Tests of codecs, messages and the outside, by what their crates export.
+//! Tests of codecs and messages, by what their crates export.
 #![tactic(auto)]
 
 #[cfg(test)]

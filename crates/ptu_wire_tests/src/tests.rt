@@ -1,6 +1,4 @@
 mod header;
 mod messages;
 mod octets;
-mod outside;
-mod ports;
 mod tlvs;

@@ -103,11 +103,28 @@ fn a_lane_that_waits_is_told(rt: HostRuntime) -> Result<(), Fail> {
     Ok(())
 }
 
+// What three lanes have done: the one that awaits the others begins, and is told; the others come.
+#[derive(Drop)]
+struct Awaited {
+    begun: AtomicU64,
+    told: AtomicU64,
+    came: AtomicU64,
+}
+
+fn nobody_awaited() -> Awaited {
+    Awaited {
+        begun: AtomicU64::new(0),
+        told: AtomicU64::new(0),
+        came: AtomicU64::new(0),
+    }
+}
+
 // Waits for the two others, and tells how many of them had come then, and that it waited.
-fn await_two(rt: &impl Wait, meeting: &Meeting, came: &AtomicU64, told: &AtomicU64) -> (bool, u64) {
+fn await_two(rt: &impl Wait, meeting: &Meeting, awaited: &Awaited) -> (bool, u64) {
+    awaited.begun.store(1, Ordering::SeqCst);
     let goes_on = meeting.await_others(rt);
-    told.store(1, Ordering::SeqCst);
-    (goes_on, came.load(Ordering::SeqCst))
+    awaited.told.store(1, Ordering::SeqCst);
+    (goes_on, awaited.came.load(Ordering::SeqCst))
 }
 
 // Looks until the count is 1, or the limit of looks is reached.
@@ -120,48 +137,51 @@ fn is_seen(count: &AtomicU64) -> bool {
     false
 }
 
-// Comes after a while.
-fn come_late(rt: &impl Wait, meeting: &Meeting, came: &AtomicU64) -> bool {
+// Comes a while after the other lane has begun to wait.
+fn come_late(rt: &impl Wait, meeting: &Meeting, awaited: &Awaited) -> bool {
+    let is_awaited = is_seen(&awaited.begun);
     for _ in 0..LOOKS {
         yield_now();
     }
-    came.fetch_add(1, Ordering::SeqCst);
-    meeting.meet(rt).is_some()
+    awaited.came.fetch_add(1, Ordering::SeqCst);
+    meeting.meet(rt).is_some() && is_awaited
 }
 
 // It refuses a lane that goes on before all others have come, and one that ends their meeting
 // before it comes itself.
 #[test]
 fn a_lane_awaits_all_others(rt: HostRuntime) -> Result<(), Fail> {
-    let (came, told) = (AtomicU64::new(0), AtomicU64::new(0));
+    let awaited = nobody_awaited();
     let meeting = Meeting::new(3);
-    let (awaited, met) = join(
+    let (found, met) = join(
         &rt,
         || {
-            let awaited = await_two(&rt, &meeting, &came, &told);
+            let found = await_two(&rt, &meeting, &awaited);
             let goes_on = meeting.meet(&rt).is_some();
-            (awaited, goes_on)
+            (found, goes_on)
         },
         || {
             join(
                 &rt,
-                || come_late(&rt, &meeting, &came),
-                || come_late(&rt, &meeting, &came),
+                || come_late(&rt, &meeting, &awaited),
+                || come_late(&rt, &meeting, &awaited),
             )
         },
     );
-    assert_eq!(rt; awaited, ((true, 2), true));
+    assert_eq!(rt; found, ((true, 2), true));
     assert_eq!(rt; met, (true, true));
     Ok(())
 }
 
-// Gives up after a while, looks whether the lane that waits is told, and gives up for the third.
-fn give_up_twice(rt: &impl Wait, meeting: &Meeting, told: &AtomicU64) -> bool {
+// Gives up a while after the other lane has begun to wait, looks whether it is told, and gives up
+// for the third.
+fn give_up_twice(rt: &impl Wait, meeting: &Meeting, awaited: &Awaited) -> bool {
+    let is_awaited = is_seen(&awaited.begun);
     for _ in 0..LOOKS {
         yield_now();
     }
     meeting.give_up(rt);
-    let is_told = is_seen(told);
+    let is_told = is_awaited && is_seen(&awaited.told);
     meeting.give_up(rt);
     is_told
 }
@@ -169,14 +189,14 @@ fn give_up_twice(rt: &impl Wait, meeting: &Meeting, told: &AtomicU64) -> bool {
 // It refuses a lane that awaits the others still where one has given up.
 #[test]
 fn a_lane_that_awaits_others_is_told(rt: HostRuntime) -> Result<(), Fail> {
-    let (came, told) = (AtomicU64::new(0), AtomicU64::new(0));
+    let awaited = nobody_awaited();
     let meeting = Meeting::new(3);
-    let (awaited, is_told) = join(
+    let (found, is_told) = join(
         &rt,
-        || await_two(&rt, &meeting, &came, &told),
-        || give_up_twice(&rt, &meeting, &told),
+        || await_two(&rt, &meeting, &awaited),
+        || give_up_twice(&rt, &meeting, &awaited),
     );
-    assert_eq!(rt; awaited, (false, 0));
+    assert_eq!(rt; found, (false, 0));
     assert!(rt; is_told);
     Ok(())
 }
