@@ -14,10 +14,9 @@ use crate::calls::{Call, Called, EventCall, EventWork, SendingCall, SendingCalls
 use crate::changing::rounds_before_change;
 use crate::lanes::{ControlLane, EventLane, Lanes, Rounds, SendingLane, SendingLanes};
 use crate::service::{Base, Service};
-use ptu_admit::InForce;
 use ptu_config::GmSettings;
 use ptu_outside::{Clock, Meeting, Opened, Port};
-use ptu_shared::{Blanks, Ledgers, PortTally, Rates, Seat, Shared, TablePorts, Turners};
+use ptu_shared::{Blanks, Ledgers, Rates, Seat, Shared, TablePorts, Turners};
 use ptu_units::OutOfMemory;
 use std::snapshot::Snapshot;
 use std::sync::ledger::Ledger;
@@ -91,33 +90,6 @@ fn sending_lanes<C: Clock, L: Rates>(
             turner: fourth,
             done: 0,
         },
-    }
-}
-
-// The ports and clocks that were opened, with those of lanes that have left in their places.
-fn given_back<P: Port, C: Clock, L: Rates>(
-    opened: Opened<P, C>,
-    event: EventLane<P, C>,
-    sending: SendingLanes<C, L>,
-) -> Opened<P, C>
-    ensures { result ≡ record opened {
-      p5 = event.port;
-      c1 = event.clock;
-      c2 = sending.first.clock;
-      c3 = sending.second.clock;
-      c4 = sending.third.clock;
-      c5 = sending.fourth.clock;
-    } }
-{
-    let (_, (c2, c3, c4, c5)) = sending.into_parts();
-    Opened {
-        p5: event.port,
-        c1: event.clock,
-        c2,
-        c3,
-        c4,
-        c5,
-        ..opened
     }
 }
 
@@ -425,23 +397,22 @@ where
         if self.gate.get().is_some() {
             let event = event.called(self.base.rt).left()?;
             let sending = self.left_sending(sending)?;
-            return Ok(Done::Refused(given_back(opened, event, sending), control));
+            let (_, (c2, c3, c4, c5)) = sending.into_parts();
+            let back = Opened {
+                p5: event.port,
+                c1: event.clock,
+                c2,
+                c3,
+                c4,
+                c5,
+                ..opened
+            };
+            return Ok(Done::Refused(back, control));
         }
         let (seat, seats) = self.open(
             settings, ledgers, opened.p0, opened.p1, opened.p2, opened.p3,
         )?;
-        let control = ControlLane {
-            seat,
-            port: opened.p4,
-            clock: opened.c0,
-            tally: PortTally::none(),
-            control,
-            class: settings.class,
-            in_force: InForce::of(settings.capacity),
-            sequence: 0,
-            done: 0,
-            stopped: false,
-        };
+        let control = ControlLane::new(settings, seat, opened.p4, opened.c0, control);
         let control = self.call_control(settings, control).served()?;
         let event = event.called(self.base.rt).served()?;
         let sending = self.served_sending(sending)?;

@@ -1,6 +1,6 @@
 //! The lanes of a grandmaster, with what each keeps from round to round.
 
-ghost use Rattle.std.specs.Prelude.{◌≡◌, ◌+◌, ◌-◌, ◌*◌, ◌^◌, ◌≤◌, min, Ok, IfOk};
+ghost use Rattle.std.specs.Prelude.{◌≡◌, ◌+◌, ◌-◌, ◌*◌, ◌^◌, ◌≤◌, false, min, Ok, IfOk};
 ghost use Rattle.ptu_shared.specs.Turning.{after_rounds};
 ghost use Rattle.ptu_lanes.specs.Crew.{turns_by};
 ghost use Rattle.ptu_lanes.specs.Stretches.{EventLaneDid, SendingLaneDid};
@@ -10,6 +10,7 @@ use crate::delays::delay_round;
 use crate::service::Service;
 use crate::turns::turn_round;
 use ptu_admit::InForce;
+use ptu_config::GmSettings;
 use ptu_outside::{Ahead, Clock, Meeting, Port};
 use ptu_shared::{PortTally, Rates, Seat, Turner};
 use ptu_units::{Moment, OutOfMemory};
@@ -36,6 +37,43 @@ pub(crate) struct ControlLane<P: Port, C: Clock, G: Ledger, R: Ledger> {
     pub done: u64,
     /// Whether an order has stopped it.
     pub stopped: bool,
+}
+
+impl<P: Port, C: Clock, G: Ledger, R: Ledger> ControlLane<P, C, G, R> {
+    /// The lane of a grandmaster of these settings, before its first round.
+    pub(crate) fn new(
+        settings: &GmSettings,
+        seat: Seat<G, R>,
+        port: P,
+        clock: C,
+        control: Option<P>,
+    ) -> ControlLane<P, C, G, R>
+        ensures { result ≡ record {
+          seat = seat;
+          port = port;
+          clock = clock;
+          tally = record { sent = 0; failed = 0 };
+          control = control;
+          class = settings.now.class;
+          in_force = settings.now.capacity;
+          sequence = 0;
+          done = 0;
+          stopped = false;
+        } }
+    {
+        ControlLane {
+            seat,
+            port,
+            clock,
+            tally: PortTally::none(),
+            control,
+            class: settings.class,
+            in_force: InForce::of(settings.capacity),
+            sequence: 0,
+            done: 0,
+            stopped: false,
+        }
+    }
 }
 
 /// The lane that takes Delay_Reqs, and how many of its receives failed. What the tables' ports are

@@ -1,7 +1,7 @@
 use Rattle.std.proofs.Common.{◌≡◌, ◌∙◌, refl, ap, arith, subst}
 use Rattle.ptu_shared.specs.Turning.{all_turns, own_turns}
-use Rattle.ptu_lanes.specs.declared.lanes.{EventLane.{EventLane}, SendingLanes.{SendingLanes}}
-use Rattle.ptu_lanes.specs.Stretches.{EventLaneDid, HaveTurned, TookDelayReqs}
+use Rattle.ptu_lanes.specs.declared.lanes.{ControlLane.{ControlLane}, EventLane.{EventLane}, SendingLanes.{SendingLanes}}
+use Rattle.ptu_lanes.specs.{Crew.{ServedAs}, Stretches.{EventLaneDid, HaveTurned, TookDelayReqs}}
 use Rattle.ptu_lanes.proofs.Outcomes.{came_left, came_served}
 use Rattle.ptu_lanes.proofs.crew.Crew.work.Goals as goal
 
@@ -12,15 +12,16 @@ returns-then-is_some g c =
     let sending = c.in_ok-sending.ensures begun.result c.start_all_sending-sending.ensures in
     let port : c.in_ok-event.event.port ≡ c.args.opened.p5 = ap (λ (l : EventLane _ _). l.port) (event ∙ c.new.ensures) in
     let clock : c.in_ok-event.event.clock ≡ c.args.opened.c1 = ap (λ (l : EventLane _ _). l.clock) (event ∙ c.new.ensures) in
-    let first : c.in_ok-sending.sending.first.clock ≡ c.args.opened.c2 = ap (λ (s : SendingLanes _ _). s.first.clock) sending ∙ begun.ensures.clocks.0 in
-    let second : c.in_ok-sending.sending.second.clock ≡ c.args.opened.c3 = ap (λ (s : SendingLanes _ _). s.second.clock) sending ∙ begun.ensures.clocks.1 in
-    let third : c.in_ok-sending.sending.third.clock ≡ c.args.opened.c4 = ap (λ (s : SendingLanes _ _). s.third.clock) sending ∙ begun.ensures.clocks.2 in
-    let fourth : c.in_ok-sending.sending.fourth.clock ≡ c.args.opened.c5 = ap (λ (s : SendingLanes _ _). s.fourth.clock) sending ∙ begun.ensures.clocks.3 in
-    (c.given_back.ensures ∙ rw (port, clock, first, second, third, fourth) refl, refl)
+    let first : c.into_parts-c2.result.1.0 ≡ c.args.opened.c2 = c.into_parts-c2.ensures.clocks.0 ∙ ap (λ (s : SendingLanes _ _). s.first.clock) sending ∙ begun.ensures.clocks.0 in
+    let second : c.into_parts-c2.result.1.1 ≡ c.args.opened.c3 = c.into_parts-c2.ensures.clocks.1 ∙ ap (λ (s : SendingLanes _ _). s.second.clock) sending ∙ begun.ensures.clocks.1 in
+    let third : c.into_parts-c2.result.1.2 ≡ c.args.opened.c4 = c.into_parts-c2.ensures.clocks.2 ∙ ap (λ (s : SendingLanes _ _). s.third.clock) sending ∙ begun.ensures.clocks.2 in
+    let fourth : c.into_parts-c2.result.1.3 ≡ c.args.opened.c5 = c.into_parts-c2.ensures.clocks.3 ∙ ap (λ (s : SendingLanes _ _). s.fourth.clock) sending ∙ begun.ensures.clocks.3 in
+    (rw (port, clock, first, second, third, fourth) refl, refl)
 
 pub returns : goal.returns
 returns g c =
-    let control = came_served _ _ c.call_control.result c.in_ok-control.control c.call_control.ensures c.in_ok-control.ensures in
+    let came = came_served _ _ c.call_control.result c.in_ok-control.control c.call_control.ensures c.in_ok-control.ensures in
+    let control = subst (λ (l : ControlLane _ _ _ _). ServedAs g.P.Port g.C.Clock c.args.settings.now c.args.self.now.base.now.config.now l c.in_ok-control.control) c.new-control.ensures came in
     let begun = c.sending_lanes-sending in
     let lanes = c.sender_count.result in
     let few = c.sender_count.ensures in
