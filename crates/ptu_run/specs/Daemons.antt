@@ -1,5 +1,5 @@
 -- What a run of a daemon comes to: it reads its settings, opens its ports, and writes its output.
-use Rattle.std.specs.Prelude.{◌≡◌, ◌⊎◌, ℕ, true, false, List, [], ◌∷◌, Option, Some, None, IfSome, Result, Ok, Err}
+use Rattle.std.specs.Prelude.{◌≡◌, ◌⊎◌, ℕ, true, false, List, [], ◌∷◌, Option, Some, None, IfNone, IfSome, Result, Ok, Err}
 use Rattle.ptu_outside.specs.declared.{clock.Clock.{Ghosts as Clocks}, endpoint.Endpoint.{Endpoint}}
 use Rattle.ptu_outside.specs.declared.{opened.Opened.{Opened}, port.Port.{Ghosts as Ports}}
 use Rattle.ptu_outside.specs.{Handing.{HasPut, HasPutFront, HasPutPart}, Telling.{IfTold}}

@@ -9,7 +9,7 @@ pub returns-then-settings : goal.returns-then-settings
 returns-then-settings g c =
     record {
       answer =
-          answered_by g.K.Sink c.args.sink.now c.serve_in_two_steps.new.sink _ _ _ _ c.args.settings.now _ _ c.serve_in_two_steps.result
+          answered_by g.K.Sink c.args.sink.now c.serve_in_two_steps.new.sink _ _ _ _ _ c.args.settings.now _ _ c.serve_in_two_steps.result
           (λ said served. record { as_they_are = λ one. both c.args.settings.now.two_step c.if-settings.true one; in_two_steps = λ two. served })
           c.serve_in_two_steps.ensures.answer;
     }
@@ -18,7 +18,7 @@ pub returns-else-settings : goal.returns-else-settings
 returns-else-settings g c =
     record {
       answer =
-          answered_by g.K.Sink c.args.sink.now c.serve.new.sink _ _ _ _ c.args.settings.now _ _ c.serve.result
+          answered_by g.K.Sink c.args.sink.now c.serve.new.sink _ _ _ _ _ c.args.settings.now _ _ c.serve.result
           (λ said served. record { as_they_are = λ one. served; in_two_steps = λ two. both c.args.settings.now.two_step two c.if-settings.false })
           c.serve.ensures.answer;
     }
