@@ -16,10 +16,6 @@ pub none_back : {P : Type 0} (ports : Ports P) (control' : Option P) (answers : 
 none_back ports None answers h = refl
 none_back ports (Some q) answers h = absurd h
 
-pub none_there : {P : Type 0} (control : Option P) → is_some control ≡ false → control ≡ None
-none_there None is = refl
-none_there (Some port) is = absurd (let never : true ≡ false = is in cc)
-
 -- nothing was taken of a control port that is not there
 pub nothing_given : {P : Type 0} (ports : Ports P) (control control' : Option P) (answers : List Departure) (taken : List Arrival) →
     control ≡ None → WasHandedAt ports control control' answers → Gave (waits_at ports control) (waits_at ports control') taken → taken ≡ []

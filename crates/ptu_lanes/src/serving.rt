@@ -1,6 +1,6 @@
 //! A grandmaster that is served by lanes, from its ports to its last numbers.
 
-ghost use Rattle.std.specs.Prelude.{◌≡◌, ◌+◌, ◌-◌, ◌^◌, ◌≤◌, ◌<◌, min, [], true, is_some, IfOk};
+ghost use Rattle.std.specs.Prelude.{◌≡◌, ◌+◌, ◌-◌, ◌^◌, ◌≤◌, min, [], true, is_some, IfOk};
 ghost use Rattle.ptu_shared.specs.{Blanks.{IsBlankOf}, Opening.{seen_of}};
 ghost use Rattle.ptu_config.specs.Limits.{IsGmInRange};
 ghost use Rattle.ptu_shared.specs.Turning.{AreTurnBlanks};
@@ -14,7 +14,7 @@ use ptu_admit::Closed;
 use ptu_config::GmSettings;
 use ptu_outside::{Clock, Opened, Port};
 use ptu_profile::GmConfig;
-use ptu_shared::{Blanks, PortTally, Rates, Seat, Shared, Tallies};
+use ptu_shared::{Blanks, Rates, Seat, Shared, Tallies};
 use ptu_units::OutOfMemory;
 use std::alloc::Global;
 use std::marker::Brand;
@@ -62,23 +62,15 @@ fn sent_by(tallies: &Tallies, control: u128) -> u128
         .saturating_add(tallies.p3.sent)
 }
 
-// How many sends of a table's port failed.
-fn failures(tally: &PortTally) -> u128
-    ensures value { result ≡ tally.now.failed }
-    ensures range { result < 2 ^ 64 }
-{
-    u128::from(tally.failed)
-}
-
 // What failed at the ports of the tables, and at those of the lanes that take datagrams.
 fn failed_by(tallies: &Tallies, control: u64, event: u64) -> u128
     ensures { let t = tallies.now in result
         ≡ t.p0.failed + (t.p1.failed + (t.p2.failed + (t.p3.failed + (control + (event + 0))))) }
 {
-    let tables = failures(&tallies.p0)
-        + failures(&tallies.p1)
-        + failures(&tallies.p2)
-        + failures(&tallies.p3);
+    let tables = tallies.p0.failures()
+        + tallies.p1.failures()
+        + tallies.p2.failures()
+        + tallies.p3.failures();
     tables + u128::from(control) + u128::from(event)
 }
 

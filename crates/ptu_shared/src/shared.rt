@@ -16,7 +16,6 @@ use crate::place::{First, Fourth, Place, Second, Third};
 use crate::rates::Rates;
 use crate::seat::Seat;
 use crate::table::Table;
-use crate::tally::PortTally;
 use crate::turning::{TurnBook, Turner};
 use ptu_admit::{Cancelled, InForce, Live, Resized, Verdict};
 use ptu_messages::{Ask, Header};
@@ -55,8 +54,6 @@ pub struct Standing {
     pub sent: u128,
     /// How many sends of theirs failed.
     pub failed: u128,
-    /// The capacity in force, in sixteenths of a message per second.
-    pub capacity: u64,
     /// How many asks were granted.
     pub granted: u64,
     /// How many asks within the profile did not fit.
@@ -71,13 +68,6 @@ fn both(first: &Live, second: &Live) -> Live {
         syncs: first.syncs.saturating_add(second.syncs),
         delay_resps: first.delay_resps.saturating_add(second.delay_resps),
     }
-}
-
-// How many sends of a table's port failed.
-fn failures(tally: &PortTally) -> u128
-    ensures { result < 2 ^ 64 }
-{
-    u128::from(tally.failed)
 }
 
 impl<P: Port + Send, L: Rates, G: Ledger, R: Ledger> Shared<P, L, G, R> {
@@ -393,8 +383,7 @@ impl<P: Port + Send, L: Rates, G: Ledger, R: Ledger> Shared<P, L, G, R> {
                 .saturating_add(p1.sent)
                 .saturating_add(p2.sent)
                 .saturating_add(p3.sent),
-            failed: failures(&p0) + failures(&p1) + failures(&p2) + failures(&p3),
-            capacity: desk.book.capacity(),
+            failed: p0.failures() + p1.failures() + p2.failures() + p3.failures(),
             granted: desk.granted,
             refused: desk.refused,
         }

@@ -1,6 +1,6 @@
 //! What a port was sent, and how many of its calls failed.
 
-ghost use Rattle.std.specs.Prelude.{◌≡◌, ◌+◌, ◌-◌, ◌^◌, min};
+ghost use Rattle.std.specs.Prelude.{◌≡◌, ◌<◌, ◌+◌, ◌-◌, ◌^◌, min};
 
 /// How many datagrams a port was sent, and how many of its calls failed: of the port of a table its
 /// sends, of that of a lane its sends and receives. A number that would be above its type's end
@@ -30,6 +30,14 @@ impl PortTally {
             sent: self.sent.saturating_add(u128::from(sent)),
             failed: self.failed.saturating_add(failed),
         }
+    }
+
+    /// How many calls failed, where those of several ports are summed.
+    pub fn failures(&self) -> u128
+        ensures value { result ≡ self.now.failed }
+        ensures range { result < 2 ^ 64 }
+    {
+        u128::from(self.failed)
     }
 }
 
