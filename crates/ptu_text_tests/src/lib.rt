@@ -1,4 +1,4 @@
-//! Tests of what is read and written as text, by what their crates export: settings, lines in
+//! Tests of octets, messages and texts, by what their crates export: codecs, settings, lines in
 //! pieces, words of a line, lines of a report that are read again.
 #![tactic(auto)]
 

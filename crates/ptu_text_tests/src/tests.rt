@@ -1,5 +1,9 @@
 mod audit_lines;
 mod config;
 mod config_setup;
+mod header;
 mod lines;
+mod messages;
+mod octets;
+mod tlvs;
 mod writing;

@@ -1,4 +1,0 @@
-mod header;
-mod messages;
-mod octets;
-mod tlvs;
