@@ -25,6 +25,8 @@ pub returns-in-Served : goal.returns-in-Served
 returns-in-Served g c =
     let ended : ServesByLanes g.P.Port g.C.Clock c.args.settings.now c.config-config.result c.args.opened c.in-Served.back c.args.control c.in-Served.control
     c.in-Served.totals.rounds (numbers_of c.in-Served.totals) = rw c.in-Served.is at c.in_ok-back.ensures in
-    record { serves = inl (of_equals g.P.Port g.C.Clock c.args.settings.now c.config-config.result (config_of c.args.settings.now) c.args.opened c.in-Served.back c.args.control c.in-Served.control
-    c.in-Served.totals.rounds _ (numbers_of c.in-Served.totals) (numbers_in (said_by c.closing_of.result)) c.config-config.ensures c.closing_of.ensures.rounds
-    c.closing_of.ensures.numbers ended) }
+    record {
+      serves = inl (of_equals g.P.Port g.C.Clock c.args.settings.now c.config-config.result (config_of c.args.settings.now) c.args.opened c.in-Served.back c.args.control c.in-Served.control
+          c.in-Served.totals.rounds _ (numbers_of c.in-Served.totals) (numbers_in (said_by c.closing_of.result)) c.config-config.ensures c.closing_of.ensures.rounds
+          c.closing_of.ensures.numbers ended);
+    }
