@@ -40,7 +40,10 @@ fn waits_of(
     );
     let mut host = OnceHost::new(opened);
     assert_said(rt, alloc, settings, &mut host, line);
-    let noted = host.back.as_ref().and_then(event_noted);
+    let noted = match &host.back {
+        Some(opened) => event_noted(opened),
+        None => None,
+    };
     Ok(noted.ok_or("only the port of the event channel waits")?)
 }
 

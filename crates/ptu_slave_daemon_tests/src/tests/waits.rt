@@ -46,7 +46,10 @@ fn waits_of(
     let mut sink = MemSink::new(alloc, Vec::new(alloc));
     assert!(rt; has_judges(settings, &stock));
     assert!(rt; slave(alloc, settings, &mut host, &mut sink, stock) == Ok(()));
-    let noted = host.back.as_ref().and_then(event_noted);
+    let noted = match &host.back {
+        Some(opened) => event_noted(opened),
+        None => None,
+    };
     Ok(noted.ok_or("only the port of the event channel waits")?)
 }
 
