@@ -141,6 +141,16 @@ fn noting<'a>(
     }
 }
 
+// What the port of the event channel has noted. No other has noted a wait.
+fn noted_by(rt: &impl Abort, host: &OnceHost<NotingPort<'_>>) -> (u64, u64, u64) {
+    let back = host.back.as_ref();
+    let back = back.expect(rt, "the ports are given back");
+    for other in [&back.p0, &back.p1, &back.p2, &back.p3, &back.p4] {
+        assert_eq!(rt; other.noted(), (0, 0, 0));
+    }
+    back.p5.noted()
+}
+
 // How often the port of the event channel waits, and until when first and last, where this port
 // receives the general channel and the run writes this line. No other port waits.
 fn waits_of(
@@ -160,12 +170,8 @@ fn waits_of(
     );
     let mut host = OnceHost::new(opened);
     assert_said(rt, alloc, settings, &mut host, line);
-    let back = host.back.take().ok_or("ports are given back")?;
-    for other in [&back.p0, &back.p1, &back.p2, &back.p3, &back.p4] {
-        assert_eq!(rt; other.noted(), (0, 0, 0));
-    }
-    let noted = back.p5.noted();
-    drop(back);
+    let noted = noted_by(rt, &host);
+    drop(host);
     Ok(noted)
 }
 
