@@ -255,6 +255,7 @@ impl<L: Rates, G: Ledger, R: Ledger> Site<L, G, R> {
         let total = s0.saturating_add(s1).saturating_add(s2).saturating_add(s3);
         assert!(rt; closed.total == total);
         assert!(rt; (closed.granted, closed.refused) == all);
+        drop(closed);
     }
 }
 
@@ -375,6 +376,7 @@ where
     assert!(rt; (a == GRANTED) != (b == GRANTED));
     let closed = site.close(rt);
     assert!(rt; (closed.total, closed.granted, closed.refused) == (8, 1, 1));
+    drop(closed);
 }
 
 #[test]
