@@ -145,9 +145,9 @@ fn noting<'a>(
 fn noted_by(rt: &impl Abort, host: &OnceHost<NotingPort<'_>>) -> (u64, u64, u64) {
     let back = host.back.as_ref();
     let back = back.expect(rt, "the ports are given back");
-    for other in [&back.p0, &back.p1, &back.p2, &back.p3, &back.p4] {
-        assert_eq!(rt; other.noted(), (0, 0, 0));
-    }
+    let (one, two) = (back.p0.noted(), back.p1.noted());
+    let (three, four, five) = (back.p2.noted(), back.p3.noted(), back.p4.noted());
+    assert_eq!(rt; [one, two, three, four, five], [(0, 0, 0); 5]);
     back.p5.noted()
 }
 
