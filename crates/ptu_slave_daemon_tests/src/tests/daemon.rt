@@ -17,6 +17,7 @@ use ptu_units::{
     UdpPortNumber, WaitToRestore,
 };
 use std::alloc::{AllocError, Global};
+use std::mem::replace;
 use std::process::Abort;
 use std::test::Fail;
 
@@ -112,8 +113,8 @@ pub(crate) fn host_at(
     fails: bool,
 ) -> MemHost {
     let mut opened = opened_with(alloc, p4);
-    opened.p5 = p5;
-    opened.c0 = c0;
+    drop(replace(&mut opened.p5, p5));
+    drop(replace(&mut opened.c0, c0));
     MemHost::new(opened, fails)
 }
 

@@ -15,6 +15,7 @@ use ptu_slave_daemon::{has_judges, slave};
 use ptu_units::Moment;
 use ptu_units::sizes::LONGEST_DATAGRAM;
 use std::alloc::Global;
+use std::mem::replace;
 use std::process::Abort;
 use std::test::Fail;
 
@@ -131,7 +132,7 @@ impl Host for NotingHost {
     fn close(&mut self, opened: Opened<NotingPort, MemClock>)
         ensures quiet { self.new.faults ≡ self.old.faults }
     {
-        self.back = Some(opened);
+        drop(replace(&mut self.back, Some(opened)));
     }
 
     // It has no control port.
@@ -143,7 +144,7 @@ impl Host for NotingHost {
     fn close_control(&mut self, port: NotingPort)
         ensures quiet { self.new.faults ≡ self.old.faults }
     {
-        let _ = port;
+        drop(port);
     }
 }
 
