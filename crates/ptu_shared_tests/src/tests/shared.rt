@@ -254,6 +254,7 @@ impl<L: Rates, G: Ledger, R: Ledger> Site<L, G, R> {
         let total = s0.saturating_add(s1).saturating_add(s2).saturating_add(s3);
         assert!(rt; closed.total == total);
         assert!(rt; (closed.granted, closed.refused) == all);
+        drop(closed);
     }
 }
 
@@ -374,6 +375,7 @@ where
     assert!(rt; (a == GRANTED) != (b == GRANTED));
     let closed = site.close(rt);
     assert!(rt; (closed.total, closed.granted, closed.refused) == (8, 1, 1));
+    drop(closed);
 }
 
 #[test]

@@ -307,6 +307,7 @@ where
         gate,
     };
     held.turn_and_call(rt, seats, turner, call);
+    drop(shared);
     Ok(())
 }
 

@@ -101,6 +101,9 @@ where
     assert_eq!(rt; told, GRANTED);
     assert_eq!(rt; end_of_wait(rt, &shared, LATEST), SECOND);
     assert_eq!(rt; end_of_wait(rt, &shared, SECOND / 2), SECOND / 2);
+    drop(shared);
+    drop(seats);
+    drop(seat);
     Ok(())
 }
 
@@ -167,16 +170,18 @@ where
         ports,
     )?;
     let seat = seats.pop().expect(rt, "there is one seat");
-    let shared = &shared;
+    let tables = &shared;
     let mut port = HeldPort::at(Some(gate));
     let _ = thread::join(
         rt,
-        move || shared.wait(rt, &mut port, moment(rt, LATEST)),
+        move || tables.wait(rt, &mut port, moment(rt, LATEST)),
         move ||
             requires { L.parts ≡ 4 }
-        { ask_beside_wait(rt, shared, seat, gate) },
+        { ask_beside_wait(rt, tables, seat, gate) },
     );
     assert!(rt; !gate.is_late(), "the asks went on");
+    drop(shared);
+    drop(seats);
     Ok(())
 }
 
