@@ -140,9 +140,11 @@ fn ask_twice<L: Rates, G: Ledger, R: Ledger, W: Wait + Abort>(
 {
     let grant = hex::decode(alloc, GRANT)?;
     let mut first = port(alloc, Vec::new(alloc))?;
-    let mut failing = port(alloc, vec![in alloc; 1]?)?;
     ask_once(rt, alloc, shared, seats, &mut first, &grant);
+    drop(first);
+    let mut failing = port(alloc, vec![in alloc; 1]?)?;
     ask_in_vain(rt, alloc, shared, seats, &mut failing);
+    drop(failing);
     Ok(())
 }
 
@@ -267,12 +269,15 @@ fn send_and_close<L: Rates, G: Ledger, R: Ledger, W: Wait + Abort>(
     requires ledgers { (L.parts ≡ 4) × (G.parts ≡ L.seats) × (R.parts ≡ L.seats) }
     requires config { L.config ≡ sample_config }
 {
-    send(rt, alloc, &shared, seats.as_mut_slice(), turner)?;
+    let sent = send(rt, alloc, &shared, seats.as_mut_slice(), turner);
     let closed = match shared.close(seats) {
         Ok(closed) => closed,
         Err(_) => panic!(rt; "no seat is missing"),
     };
-    let checked = check_sent(rt, alloc, &closed);
+    let checked = match sent {
+        Ok(()) => check_sent(rt, alloc, &closed),
+        Err(fail) => Err(fail),
+    };
     drop(closed);
     checked
 }
@@ -314,7 +319,13 @@ fn play<L: Rates, G: Ledger, R: Ledger, W: Wait + Abort>(
     let (ledgers, turner) = blanks.open::<L>();
     let (shared, mut seats) = Shared::<MemPort, L, G, R>::new(alloc, ledgers, capacity, 1, ports)?;
     match scene {
-        Scene::Requests => ask_twice(rt, alloc, &shared, seats.as_mut_slice()),
+        Scene::Requests => {
+            let asked = ask_twice(rt, alloc, &shared, seats.as_mut_slice());
+            drop(shared);
+            drop(seats);
+            drop(turner);
+            asked
+        }
         Scene::Lanes => send_and_close(rt, alloc, shared, seats, turner),
     }
 }

@@ -6,6 +6,7 @@ use ptu_outside::{Channel, Failed, Host, MemHost, MemPort, Port};
 use ptu_units::Moment;
 use ptu_units::sizes::LONGEST_DATAGRAM;
 use std::alloc::Global;
+use std::mem::replace;
 use std::process::Abort;
 use std::test::Fail;
 
@@ -38,38 +39,68 @@ fn is_sent(port: &MemPort, index: usize, channel: Channel, octets: &[u8]) -> boo
     port.sent(index).is_some_and(|sent| (sent.0, sent.1) == (7, channel) && *sent.2 == *octets)
 }
 
+// The port sends the octets, and is then flagged or not.
+fn assert_sends(
+    rt: &impl Abort,
+    port: &mut TwoStep<MemPort>,
+    channel: Channel,
+    octets: &[u8],
+    is_flagged: bool,
+) {
+    assert!(rt; port.send(7, channel, octets).is_ok());
+    assert!(rt; port.is_flagged() == is_flagged);
+}
+
+// The port below was sent just these.
+fn assert_sent(rt: &impl Abort, port: &MemPort, sent: &[(Channel, &[u8])]) {
+    for (place, (channel, octets)) in sent.iter().enumerate() {
+        assert!(rt; is_sent(port, place, *channel, octets));
+    }
+    assert!(rt; port.sent(sent.len()).is_none());
+}
+
 #[test]
 fn a_sync_is_sent_in_two_steps_and_all_else_as_it_is(rt: HostRuntime) -> Result<(), Fail> {
     let alloc = rt.alloc();
     let mut port = TwoStep::new(below(alloc, Vec::new(alloc))?);
-    port.send(7, Channel::Event, &SYNC)?;
-    port.send(7, Channel::General, &SYNC)?;
-    port.send(7, Channel::Event, &SYNC[..43])?;
-    assert!(rt; !port.is_flagged());
-    port.send(7, Channel::Event, &IN_TWO)?;
-    assert!(rt; port.is_flagged());
+    assert_sends(&rt, &mut port, Channel::Event, &SYNC, false);
+    assert_sends(&rt, &mut port, Channel::General, &SYNC, false);
+    assert_sends(&rt, &mut port, Channel::Event, &SYNC[..43], false);
+    assert_sends(&rt, &mut port, Channel::Event, &IN_TWO, true);
     let port = port.into_inner();
-    assert!(rt; is_sent(&port, 0, Channel::Event, &IN_TWO));
-    assert!(rt; is_sent(&port, 1, Channel::General, &FOLLOW_UP));
-    assert!(rt; is_sent(&port, 2, Channel::General, &SYNC));
-    assert!(rt; is_sent(&port, 3, Channel::Event, &SYNC[..43]));
-    assert!(rt; is_sent(&port, 4, Channel::Event, &IN_TWO));
-    assert!(rt; port.sent(5).is_none());
+    let sent = [
+        (Channel::Event, IN_TWO.as_slice()),
+        (Channel::General, FOLLOW_UP.as_slice()),
+        (Channel::General, SYNC.as_slice()),
+        (Channel::Event, &SYNC[..43]),
+        (Channel::Event, IN_TWO.as_slice()),
+    ];
+    assert_sent(&rt, &port, &sent);
+    drop(port);
+    Ok(())
+}
+
+// Where the send of this number fails the port is flagged, and this alone is handed over.
+fn assert_half(
+    rt: &impl Abort,
+    alloc: Global,
+    failing_send: u64,
+    channel: Channel,
+    octets: &[u8],
+) -> Result<(), Fail> {
+    let mut port = TwoStep::new(below(alloc, vec![in alloc; failing_send]?)?);
+    assert!(rt; port.send(7, Channel::Event, &SYNC).is_err() && port.is_flagged());
+    let port = port.into_inner();
+    assert_sent(rt, &port, &[(channel, octets)]);
+    drop(port);
     Ok(())
 }
 
 #[test]
 fn both_halves_are_handed_over_where_one_fails(rt: HostRuntime) -> Result<(), Fail> {
     let alloc = rt.alloc();
-    let mut port = TwoStep::new(below(alloc, vec![in alloc; 1]?)?);
-    assert!(rt; port.send(7, Channel::Event, &SYNC).is_err());
-    assert!(rt; port.is_flagged());
-    assert!(rt; is_sent(&port.into_inner(), 0, Channel::General, &FOLLOW_UP));
-    let mut port = TwoStep::new(below(alloc, vec![in alloc; 2]?)?);
-    assert!(rt; port.send(7, Channel::Event, &SYNC).is_err());
-    assert!(rt; port.is_flagged());
-    assert!(rt; is_sent(&port.into_inner(), 0, Channel::Event, &IN_TWO));
-    Ok(())
+    assert_half(&rt, alloc, 1, Channel::General, &FOLLOW_UP)?;
+    assert_half(&rt, alloc, 2, Channel::Event, &IN_TWO)
 }
 
 // Sends a Sync by the port of table 2 of what the host opens in two steps, and closes it.
@@ -97,7 +128,7 @@ fn a_host_gives_the_ports_below_back(rt: HostRuntime) -> Result<(), Fail> {
     let alloc = rt.alloc();
     let p2 = below(alloc, Vec::new(alloc))?;
     let mut opened = opened_with(alloc, idle_port(alloc));
-    opened.p2 = p2;
+    drop(replace(&mut opened.p2, p2));
     let mut host = MemHost::new(opened, false);
     let given = assert_given_back(&rt, &mut host);
     drop(host);
