@@ -8,6 +8,7 @@ use ptu_judges::{FlagJudge, Stock};
 use ptu_outside::samples::{idle_port, opened_with};
 use ptu_outside::{Arrival, Channel, Datagram, MemHost, MemPort};
 use std::alloc::Global;
+use std::process::Abort;
 use std::sync::Wait;
 use std::test::Fail;
 use std::thread::Threads;
@@ -98,81 +99,66 @@ fn settings_with(alloc: Global, more: &str) -> Result<String, Fail> {
     Ok(settings)
 }
 
+// The client is answered, and this line is written.
+fn assert_serves(
+    rt: &(impl AllocGlobal + Threads + Wait + Sync + Abort),
+    more: &str,
+    line: &str,
+) -> Result<(), Fail> {
+    let settings = settings_with(rt.alloc(), more)?;
+    let ((status, text), answered) = served(rt, settings.as_str(), false)?;
+    assert_eq!(rt; (status, text.as_str(), answered), (0, line, true));
+    Ok(())
+}
+
+const ONE_ROUND: &str = "rounds 1 sent 1 failed 0 granted 1 refused 0 held 8\n";
+
+const THREE_ROUNDS: &str = "rounds 3 sent 1 failed 0 granted 1 refused 0 held 8\n";
+
+const SHED: &str = "rounds 3 sent 2 failed 0 granted 1 refused 0 held 0\n";
+
+// More settings, and the line.
+const SERVED: [(&str, &str); 4] = [
+    ("", ONE_ROUND),
+    ("senders = 2", ONE_ROUND),
+    ("two_step = true", ONE_ROUND),
+    ("senders = 2\ntwo_step = true", ONE_ROUND),
+];
+
 #[test]
 fn a_grandmaster_is_served(rt: HostRuntime) -> Result<(), Fail> {
-    for more in [
-        "",
-        "senders = 2",
-        "two_step = true",
-        "senders = 2\ntwo_step = true",
-    ] {
-        let settings = settings_with(rt.alloc(), more)?;
-        let ((status, text), answered) = served(&rt, settings.as_str(), false)?;
-        assert_eq!(rt;
-            text.as_str(),
-            "rounds 1 sent 1 failed 0 granted 1 refused 0 held 8\n"
-        );
-        assert_eq!(rt; status, 0);
-        assert!(rt; answered);
+    for (more, line) in SERVED {
+        assert_serves(&rt, more, line)?;
     }
     Ok(())
 }
 
 // The rounds of all repetitions are one run, with one line. A change of the capacity in the second
 // one sheds the grant, and one behind the last never comes.
-#[test]
-fn a_grandmaster_repeats_its_rounds(rt: HostRuntime) -> Result<(), Fail> {
-    for (more, line) in [
-        (
-            "repeat = 1",
-            "rounds 1 sent 1 failed 0 granted 1 refused 0 held 8\n",
-        ),
-        (
-            "repeat = 3",
-            "rounds 3 sent 1 failed 0 granted 1 refused 0 held 8\n",
-        ),
-        (
-            "repeat = 3\nsenders = 2",
-            "rounds 3 sent 1 failed 0 granted 1 refused 0 held 8\n",
-        ),
-        (
-            "repeat = 3\ntwo_step = true",
-            "rounds 3 sent 1 failed 0 granted 1 refused 0 held 8\n",
-        ),
-        (
-            "repeat = 3\nchange_round = 2\nnew_capacity = 4",
-            "rounds 3 sent 2 failed 0 granted 1 refused 0 held 0\n",
-        ),
-        (
-            "repeat = 3\nchange_round = 4\nnew_capacity = 4",
-            "rounds 3 sent 1 failed 0 granted 1 refused 0 held 8\n",
-        ),
-    ] {
-        let settings = settings_with(rt.alloc(), more)?;
-        let ((status, text), _) = served(&rt, settings.as_str(), false)?;
-        assert_eq!(rt; text.as_str(), line);
-        assert_eq!(rt; status, 0);
-    }
-    Ok(())
-}
+const REPEATED: [(&str, &str); 6] = [
+    ("repeat = 1", ONE_ROUND),
+    ("repeat = 3", THREE_ROUNDS),
+    ("repeat = 3\nsenders = 2", THREE_ROUNDS),
+    ("repeat = 3\ntwo_step = true", THREE_ROUNDS),
+    ("repeat = 3\nchange_round = 2\nnew_capacity = 4", SHED),
+    (
+        "repeat = 3\nchange_round = 4\nnew_capacity = 4",
+        THREE_ROUNDS,
+    ),
+];
 
 #[test]
-fn a_repetition_out_of_range_is_refused(rt: HostRuntime) -> Result<(), Fail> {
-    for more in ["repeat = 0", "repeat = 1001", "repeat = \"2\""] {
-        let settings = settings_with(rt.alloc(), more)?;
-        let ((status, text), answered) = served(&rt, settings.as_str(), false)?;
-        assert_eq!(rt; text.as_str(), "settings bad repeat\n");
-        assert_eq!(rt; status, 65);
-        assert!(rt; !answered);
+fn a_grandmaster_repeats_its_rounds(rt: HostRuntime) -> Result<(), Fail> {
+    for (more, line) in REPEATED {
+        assert_serves(&rt, more, line)?;
     }
     Ok(())
 }
 
 #[test]
 fn a_host_does_not_open(rt: HostRuntime) -> Result<(), Fail> {
-    let ((status, text), _) = served(&rt, SERVE, true)?;
-    assert_eq!(rt; text.as_str(), "");
-    assert_eq!(rt; status, 69);
+    let ((status, text), answered) = served(&rt, SERVE, true)?;
+    assert_eq!(rt; (status, text.as_str(), answered), (69, "", false));
     Ok(())
 }
 
@@ -196,11 +182,8 @@ fn a_slave_asks_and_stops(rt: HostRuntime) -> Result<(), Fail> {
     let alloc = rt.alloc();
     let stock = one_judge(alloc, Box::new(alloc, FlagJudge::new())?)?;
     let (status, text) = followed(&rt, SLAVE, stock)?;
-    assert_eq!(rt;
-        text.as_str(),
-        "round 1 selected none\nrounds 1 sent 1 failed 0\n"
-    );
-    assert_eq!(rt; status, 0);
+    let wanted = "round 1 selected none\nrounds 1 sent 1 failed 0\n";
+    assert_eq!(rt; (status, text.as_str()), (0, wanted));
     Ok(())
 }
 
@@ -212,18 +195,14 @@ fn a_slave_repeats_its_rounds(rt: HostRuntime) -> Result<(), Fail> {
     settings.push_str(SLAVE)?;
     let stock = one_judge(alloc, Box::new(alloc, FlagJudge::new())?)?;
     let (status, text) = followed(&rt, settings.as_str(), stock)?;
-    assert_eq!(rt;
-        text.as_str(),
-        "round 1 selected none\nrounds 3 sent 1 failed 0\n"
-    );
-    assert_eq!(rt; status, 0);
+    let wanted = "round 1 selected none\nrounds 3 sent 1 failed 0\n";
+    assert_eq!(rt; (status, text.as_str()), (0, wanted));
     Ok(())
 }
 
 #[test]
 fn a_slave_has_no_judge(rt: HostRuntime) -> Result<(), Fail> {
     let (status, text) = followed(&rt, SLAVE, no_judges(rt.alloc()))?;
-    assert_eq!(rt; text.as_str(), "settings bad masters\n");
-    assert_eq!(rt; status, 65);
+    assert_eq!(rt; (status, text.as_str()), (65, "settings bad masters\n"));
     Ok(())
 }

@@ -5,6 +5,7 @@ ghost use Rattle.ptu_judges.specs.Boxes.{IsFreshStock};
 
 use crate::tests::pieces::{HALVES, ONE_ASK, ONE_GRANT, no_judges, one_judge, ran, shut};
 use ptu_judges::{FlagJudge, Stock};
+use std::process::Abort;
 use std::sync::Wait;
 use std::test::Fail;
 use std::thread::Threads;
@@ -70,6 +71,12 @@ fn lines_in(text: &str) -> usize {
     text.as_bytes().iter().filter(|b| **b == b'\n').count()
 }
 
+// What was written is so many lines of the report, from its front.
+fn assert_told(rt: &impl Abort, report: &str, text: &str, lines: usize) {
+    assert!(rt; report.starts_with(text), "{text}");
+    assert_eq!(rt; lines_in(text), lines);
+}
+
 #[test]
 fn each_read_fails_in_turn(rt: HostRuntime) -> Result<(), Fail> {
     let alloc = rt.alloc();
@@ -79,9 +86,8 @@ fn each_read_fails_in_turn(rt: HostRuntime) -> Result<(), Fail> {
         for (read, status, lines) in [(1, 66, 0), (2, 66, whole.saturating_sub(1)), (3, 0, whole)] {
             let stock = one_judge(alloc, Box::new(alloc, FlagJudge::new())?)?;
             let (found, text) = ran_shut(&rt, &["replay"], script, (read, 0), stock)?;
+            assert_told(&rt, report, text.as_str(), lines);
             assert_eq!(rt; found, status);
-            assert!(rt; report.starts_with(text.as_str()), "{text}");
-            assert_eq!(rt; lines_in(text.as_str()), lines);
         }
     }
     Ok(())
@@ -96,9 +102,8 @@ fn each_write_fails_in_turn(rt: HostRuntime) -> Result<(), Fail> {
             let stock = one_judge(alloc, Box::new(alloc, FlagJudge::new())?)?;
             let write = (lines as u64).saturating_add(1);
             let (found, text) = ran_shut(&rt, &["replay"], script, (0, write), stock)?;
+            assert_told(&rt, report, text.as_str(), lines);
             assert_eq!(rt; found, if lines < whole { 67 } else { 0 });
-            assert!(rt; report.starts_with(text.as_str()), "{text}");
-            assert_eq!(rt; lines_in(text.as_str()), lines);
         }
     }
     Ok(())
