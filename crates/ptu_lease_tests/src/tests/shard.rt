@@ -241,5 +241,7 @@ fn a_plain_table_does_the_same(rt: HostRuntime) -> Result<(), Fail> {
     let mut shard = empty_table(alloc);
     let mut rows = Vec::new(alloc);
     let mut ips = Vec::new(alloc);
-    same_steps(&rt, &mut shard, &mut rows, &mut ips)
+    let same = same_steps(&rt, &mut shard, &mut rows, &mut ips);
+    drop(shard);
+    same
 }
