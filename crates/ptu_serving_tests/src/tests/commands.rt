@@ -8,20 +8,17 @@
 //! grants, or any that it is not told to; faults of the control port that are counted, or that end
 //! the daemon.
 
-ghost use Rattle.std.specs.Prelude.{◌≤◌, IfOk, length};
+ghost use Rattle.std.specs.Prelude.{IfOk, OnOk};
 ghost use Rattle.ptu_outside.specs.MemoryPort.{FitAll};
 ghost use Rattle.ptu_config.specs.Limits.{IsControlPort, IsGmInRange};
 
-use super::staged::{assert_said, still};
-use super::values::{capacity_of, senders_of};
+use super::staged::{assert_not_opened, assert_said, put, set_up, still};
+use super::values::{capacity_of, clock_after, senders_of};
 use super::waiting::{ANNOUNCE, CLIENT, asking, port, request};
 use ptu_config::GmSettings;
 use ptu_config::samples::GM_SETTINGS;
-use ptu_daemon::serve;
 use ptu_outside::samples::{OnceHost, opened_with};
-use ptu_outside::{
-    Arrival, Channel, DaemonFault, Datagram, LOOPBACK, MemClock, MemHost, MemPort, MemSink,
-};
+use ptu_outside::{Arrival, Channel, Datagram, LOOPBACK, MemClock, MemHost, MemPort, Opened};
 use ptu_units::{Moment, UdpPortNumber};
 use std::alloc::Global;
 use std::process::Abort;
@@ -49,34 +46,27 @@ fn settings(rt: &impl Abort, lanes: u64) -> GmSettings
     }
 }
 
-// A datagram of the client.
-fn arrival(bytes: Vec<u8>) -> Result<Arrival, Fail>
-    ensures { IfOk result (λ a. length a.bytes ≤ 2048) }
+// One more datagram waits.
+#[tactic(auto, using(crate::proofs::Waiting::fit_more))]
+fn push(waiting: &mut Vec<Arrival>, ip: u32, bytes: Vec<u8>) -> Result<(), Fail>
+    requires { FitAll waiting.old.items }
+    ensures { OnOk result (FitAll waiting.new.items) }
 {
     if bytes.len() > 2048 {
         return Err("a datagram is not longer".into());
     }
-    Ok(Arrival {
-        ip: CLIENT,
-        bytes: Datagram::new(bytes),
-    })
+    let bytes = Datagram::new(bytes);
+    waiting.push(Arrival { ip, bytes })?;
+    Ok(())
 }
 
 // These lines, as they wait.
-#[tactic(auto, using(crate::proofs::Waiting::fit_more))]
 fn arrivals(alloc: Global, lines: &[&str]) -> Result<Vec<Arrival>, Fail>
     ensures { IfOk result (λ waiting. FitAll waiting.items) }
 {
     let mut waiting = Vec::new(alloc);
     for line in lines {
-        let bytes = line.as_bytes().to_vec(alloc)?;
-        if bytes.len() > 2048 {
-            return Err("a datagram is not longer".into());
-        }
-        waiting.push(Arrival {
-            ip: LOOPBACK,
-            bytes: Datagram::new(bytes),
-        })?;
+        push(&mut waiting, LOOPBACK, line.as_bytes().to_vec(alloc)?)?;
     }
     Ok(waiting)
 }
@@ -96,8 +86,8 @@ fn assert_answer(rt: &impl Abort, host: &MemHost, index: usize, text: Option<&st
 // A host at whose general channel the ask waits, and at whose control port these lines do.
 fn host(alloc: Global, lines: &[&str]) -> Result<MemHost, Fail> {
     let general = port(alloc, asking(alloc, ANNOUNCE)?, &[], &[])?;
-    let host = MemHost::new(opened_with(alloc, general), false);
-    Ok(host.with_control(spoken(alloc, lines)?))
+    let control = spoken(alloc, lines)?;
+    Ok(MemHost::new(opened_with(alloc, general), false).with_control(control))
 }
 
 // The CANCEL of the grant is sent at this place, from 0, by port 4.
@@ -176,34 +166,44 @@ fn a_stop_cancels_where_it_is_told_to(rt: HostRuntime) -> Result<(), Fail> {
 // The last octet of the clock identity of a client of each table.
 const OCTETS: [&str; 4] = ["13", "10", "11", "12"];
 
-// A clock that tells 0 so many times, and then 2 s.
-fn clock(alloc: Global, times: u64) -> Result<MemClock, Fail> {
-    let mut moments = Vec::new(alloc);
-    for _i in 0..times {
-        moments.push(Moment::default())?;
-    }
-    moments.push(Moment::of(2_000_000_000).ok_or("a moment is below 2^62")?)?;
-    Ok(MemClock::new(moments))
-}
-
-// A host at which a client of each table asks for Announces every 2 s in round 1, whose turns come
-// 2 s later in round 2, by so many lanes, and at whose control port a class is told in round 1.
-#[tactic(auto, using(crate::proofs::Waiting::fit_more))]
-fn four_clients(alloc: Global, lanes: u64) -> Result<MemHost, Fail> {
-    let own = if lanes < 2 { 4 } else { 4 / lanes };
+// A client of each table asks for Announces every 2 s.
+fn four_asks(alloc: Global) -> Result<Vec<Arrival>, Fail>
+    ensures { IfOk result (λ waiting. FitAll waiting.items) }
+{
     let mut waiting = Vec::new(alloc);
     for octet in OCTETS {
-        let bytes = hex::decode(alloc, request(alloc, octet, ANNOUNCE)?.as_str())?;
-        waiting.push(arrival(bytes)?)?;
+        let ask = request(alloc, octet, ANNOUNCE)?;
+        push(&mut waiting, CLIENT, hex::decode(alloc, ask.as_str())?)?;
     }
-    let mut opened = opened_with(alloc, port(alloc, waiting, &[], &[])?);
-    opened.c0 = clock(alloc, 9)?;
-    opened.c2 = clock(alloc, own)?;
-    opened.c3 = clock(alloc, own)?;
-    opened.c4 = clock(alloc, own)?;
-    opened.c5 = clock(alloc, own)?;
-    let host = MemHost::new(opened, false);
-    Ok(host.with_control(spoken(alloc, &["0a00000000000002 class 110"])?))
+    Ok(waiting)
+}
+
+// The turns of round 2 come 2 s later, by so many lanes.
+fn set_clocks(
+    alloc: Global,
+    lanes: u64,
+    opened: &mut Opened<MemPort, MemClock>,
+) -> Result<(), Fail> {
+    let own = if lanes < 2 { 4 } else { 4 / lanes };
+    put(&mut opened.c0, clock_after(alloc, 9, 2000)?);
+    put(&mut opened.c2, clock_after(alloc, own, 2000)?);
+    put(&mut opened.c3, clock_after(alloc, own, 2000)?);
+    put(&mut opened.c4, clock_after(alloc, own, 2000)?);
+    put(&mut opened.c5, clock_after(alloc, own, 2000)?);
+    Ok(())
+}
+
+// A host at which those clients ask in round 1, and at whose control port a class is told in
+// round 1.
+fn four_clients(alloc: Global, lanes: u64) -> Result<MemHost, Fail> {
+    let control = spoken(alloc, &["0a00000000000002 class 110"])?;
+    let general = port(alloc, four_asks(alloc)?, &[], &[])?;
+    let mut opened = opened_with(alloc, general);
+    let set = set_clocks(alloc, lanes, &mut opened);
+    match set_up(opened, set) {
+        Ok(opened) => Ok(MemHost::new(opened, false).with_control(control)),
+        Err(fail) => Err(fail),
+    }
 }
 
 // The clockClass of the one Announce that the port was sent.
@@ -283,10 +283,8 @@ fn faults_of_the_control_port_are_not_counted(rt: HostRuntime) -> Result<(), Fai
 fn a_control_port_that_does_not_open_is_a_fault(rt: HostRuntime) {
     let alloc = rt.alloc();
     let mut host = OnceHost::new(still(alloc));
-    let mut sink = MemSink::new(alloc, Vec::new(alloc));
-    let outcome = serve(&rt, alloc, &settings(&rt, 0), &mut host, &mut sink);
-    assert!(rt; outcome == Err(DaemonFault::Open));
-    assert!(rt; host.back.is_some() && sink.bytes().is_empty());
+    assert_not_opened(&rt, alloc, &settings(&rt, 0), &mut host);
+    assert!(rt; host.back.is_some());
     drop(host);
 }
 

@@ -1,13 +1,12 @@
 ghost use Rattle.ptu_config.specs.Limits.{IsGmInRange};
 
-use super::staged::assert_said;
+use super::staged::{assert_not_opened, assert_said};
 use super::values::{capacity_of, senders_of};
 use super::waiting::{ANNOUNCE, CLIENT, asking, grant, port};
 use ptu_config::GmSettings;
 use ptu_config::samples::GM_SETTINGS;
-use ptu_daemon::{DaemonFault, serve};
 use ptu_outside::samples::{idle_port, opened_with};
-use ptu_outside::{Channel, MemHost, MemPort, MemSink};
+use ptu_outside::{Channel, MemHost, MemPort};
 use std::alloc::Global;
 use std::process::Abort;
 use std::sync::Wait;
@@ -151,8 +150,6 @@ fn rounds_are_repeated(rt: HostRuntime) -> Result<(), Fail> {
 fn a_host_that_does_not_open_is_a_fault(rt: HostRuntime) {
     let alloc = rt.alloc();
     let mut host = host(alloc, idle_port(alloc), true);
-    let mut sink = MemSink::new(alloc, Vec::new(alloc));
-    let outcome = serve(&rt, alloc, &GM_SETTINGS, &mut host, &mut sink);
-    assert!(rt; outcome == Err(DaemonFault::Open));
-    assert!(rt; sink.bytes().is_empty());
+    assert_not_opened(&rt, alloc, &GM_SETTINGS, &mut host);
+    drop(host);
 }

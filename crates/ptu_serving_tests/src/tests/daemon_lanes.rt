@@ -1,14 +1,12 @@
 ghost use Rattle.std.specs.Prelude.{◌≡◌, None};
 ghost use Rattle.ptu_config.specs.Limits.{IsGmInRange};
 
-use super::staged::{Given, StagedPort, arriving, assert_said};
-use super::values::{capacity_of, senders_of};
-use super::waiting::{SYNC, request};
+use super::staged::{Given, StagedPort, assert_said, late_delay_req, two_asks};
+use super::values::{capacity_of, clock_of, senders_of};
 use ptu_config::GmSettings;
 use ptu_config::samples::GM_SETTINGS;
 use ptu_outside::samples::{OnceHost, still_clock};
 use ptu_outside::{Channel, Failed, MemClock, Opened, Port};
-use ptu_units::Moment;
 use std::alloc::Global;
 use std::process::Abort;
 use std::sync::Wait;
@@ -29,10 +27,6 @@ fn settings(rt: &impl Abort) -> GmSettings
 
 // The limit of looks at a count.
 const LOOKS: u64 = 1_000_000_000;
-
-// A Delay_Req of the client of table 0.
-const DELAY_REQ: &str = "0112002c040004000000000000000000000000000a0000000000000300010000\
-    017f00000000000000000000";
 
 // What lanes have done that work side by side.
 #[derive(Drop)]
@@ -132,26 +126,15 @@ fn port<'a>(alloc: Global, seen: &'a Seen, role: Role, gives: Vec<Given>) -> Lan
     }
 }
 
-// A clock that is read twice at 0, and then at 1 s.
-fn going(alloc: Global) -> Result<MemClock, Fail> {
-    let moments = [0, 0, 1_000_000_000, 1_000_000_000];
-    let mut list = Vec::new(alloc);
-    for moment in moments {
-        list.push(Moment::of(moment).ok_or("a moment is below 2^63")?)?;
-    }
-    Ok(MemClock::new(list))
-}
+// The moments of a clock that is read twice at 0, and then at 1 s, in milliseconds.
+const GOING: [u64; 4] = [0, 0, 1000, 1000];
 
 // A host at whose general channel clients of tables 0 and 1 ask for Syncs, and at whose event
 // channel the Delay_Req comes in the second round.
 fn host(alloc: Global, seen: &Seen) -> Result<OnceHost<LanePort<'_>>, Fail> {
-    let asks = vec![in alloc;
-        arriving(alloc, 0x0a00_0103, request(alloc, "03", SYNC)?.as_str())?,
-        arriving(alloc, 0x0a00_0104, request(alloc, "04", SYNC)?.as_str())?,
-    ]?;
-    let delay = vec![in alloc; Given::Nothing, arriving(alloc, 0x0a00_0103, DELAY_REQ)?]?;
-    let c2 = going(alloc)?;
-    let c3 = going(alloc)?;
+    let c2 = clock_of(alloc, &GOING)?;
+    let c3 = clock_of(alloc, &GOING)?;
+    let (asks, delay) = (two_asks(alloc)?, late_delay_req(alloc)?);
     let opened = Opened {
         p0: port(alloc, seen, Role::Held, Vec::new(alloc)),
         p1: port(alloc, seen, Role::Beside, Vec::new(alloc)),

@@ -25,13 +25,12 @@
 ghost use Rattle.std.specs.Prelude.{◌≤◌};
 ghost use Rattle.ptu_config.specs.Limits.{IsGmInRange};
 
-use super::staged::{Given, StagedPort, arriving, assert_said, still};
-use super::values::{capacity_of, senders_of};
+use super::staged::{Given, StagedPort, arriving, assert_said, put, still};
+use super::values::{capacity_of, clock_of, senders_of};
 use ptu_config::GmSettings;
 use ptu_config::samples::GM_SETTINGS;
 use ptu_outside::samples::OnceHost;
 use ptu_outside::{Channel, Clock, MemClock, Opened};
-use ptu_units::Moment;
 use std::alloc::Global;
 use std::process::Abort;
 use std::sync::Wait;
@@ -163,7 +162,7 @@ const SYNCS_KEPT: [Timed; 5] = [
 ];
 
 // Where the capacity changes: nowhere; in round 1, from 1 to 65; or in round 3, from 65 to 20.
-#[derive(Clone, Copy, Debug, PartialEq, Eq)]
+#[derive(Clone, Copy, PartialEq, Eq)]
 enum Change {
     Never,
     First,
@@ -172,7 +171,7 @@ enum Change {
 
 // What fails once: nothing; a send of the port, at this place of what it would be sent; or the
 // receive of the port that ends its first round.
-#[derive(Clone, Copy, Debug, PartialEq, Eq)]
+#[derive(Clone, Copy)]
 enum Fault {
     Nothing,
     Send(usize, usize),
@@ -237,10 +236,9 @@ fn delay_resp(alloc: Global, to: &str) -> Result<String, Fail> {
 
 // What the port gives at the end of its first round.
 fn pause(fault: Fault, port: usize) -> Given {
-    if fault == Fault::Receive(port) {
-        Given::Failure
-    } else {
-        Given::Nothing
+    match fault {
+        Fault::Receive(failing) if failing == port => Given::Failure,
+        _ => Given::Nothing,
     }
 }
 
@@ -264,11 +262,11 @@ fn general(alloc: Global, fault: Fault) -> Result<Vec<Given>, Fail> {
 
 // What the event channel gives: in round 2 a Delay_Req without a grant and one with it.
 fn event(alloc: Global, fault: Fault) -> Result<Vec<Given>, Fail> {
-    Ok(vec![in alloc;
-        pause(fault, 5),
-        delay_req(alloc, NEIGHBOUR)?,
-        delay_req(alloc, THREE)?,
-    ]?)
+    let mut gives = Vec::new(alloc);
+    gives.push(pause(fault, 5))?;
+    gives.push(delay_req(alloc, NEIGHBOUR)?)?;
+    gives.push(delay_req(alloc, THREE)?)?;
+    Ok(gives)
 }
 
 // The sends of the port of this index that are to fail.
@@ -292,20 +290,6 @@ fn quiet(alloc: Global, fault: Fault, index: usize) -> Result<StagedPort, Fail> 
     port(alloc, fault, index, Vec::new(alloc))
 }
 
-fn push_moment(moments: &mut Vec<Moment>, millis: u64) -> Result<(), Fail> {
-    let nanos = millis.saturating_mul(1_000_000);
-    moments.push(Moment::of(nanos).ok_or("a moment is below 2^62")?)?;
-    Ok(())
-}
-
-fn clock(alloc: Global, millis: &[u64]) -> Result<MemClock, Fail> {
-    let mut moments = Vec::new(alloc);
-    for at in millis {
-        push_moment(&mut moments, *at)?;
-    }
-    Ok(MemClock::new(moments))
-}
-
 // What is left of the clock of a lane that turns tables.
 fn left_of(lane: usize) -> u64 {
     (lane as u64).saturating_mul(1000).saturating_add(100_000)
@@ -316,15 +300,15 @@ fn left_of(lane: usize) -> u64 {
 fn turning(alloc: Global, senders: u8, lane: usize) -> Result<MemClock, Fail>
     requires { 1 ≤ senders }
 {
-    let mut moments = Vec::new(alloc);
+    let mut millis = Vec::new(alloc);
     for (table, at) in TURNS {
         if table % usize::from(senders) == lane {
-            push_moment(&mut moments, at)?;
+            millis.push(at)?;
         }
     }
-    push_moment(&mut moments, left_of(lane))?;
-    push_moment(&mut moments, 200_000)?;
-    Ok(MemClock::new(moments))
+    millis.push(left_of(lane))?;
+    millis.push(200_000)?;
+    clock_of(alloc, &millis)
 }
 
 fn set_ports(
@@ -332,12 +316,15 @@ fn set_ports(
     fault: Fault,
     opened: &mut Opened<StagedPort, MemClock>,
 ) -> Result<(), Fail> {
-    opened.p0 = quiet(alloc, fault, 0)?;
-    opened.p1 = quiet(alloc, fault, 1)?;
-    opened.p2 = quiet(alloc, fault, 2)?;
-    opened.p3 = quiet(alloc, fault, 3)?;
-    opened.p4 = port(alloc, fault, 4, general(alloc, fault)?)?;
-    opened.p5 = port(alloc, fault, 5, event(alloc, fault)?)?;
+    put(&mut opened.p0, quiet(alloc, fault, 0)?);
+    put(&mut opened.p1, quiet(alloc, fault, 1)?);
+    put(&mut opened.p2, quiet(alloc, fault, 2)?);
+    put(&mut opened.p3, quiet(alloc, fault, 3)?);
+    put(
+        &mut opened.p4,
+        port(alloc, fault, 4, general(alloc, fault)?)?,
+    );
+    put(&mut opened.p5, port(alloc, fault, 5, event(alloc, fault)?)?);
     Ok(())
 }
 
@@ -354,12 +341,12 @@ fn set_clocks(
     } else {
         &CONTROL[1..]
     };
-    opened.c0 = clock(alloc, control)?;
-    opened.c1 = clock(alloc, &DELAYS)?;
-    opened.c2 = turning(alloc, senders, 0)?;
-    opened.c3 = turning(alloc, senders, 1)?;
-    opened.c4 = turning(alloc, senders, 2)?;
-    opened.c5 = turning(alloc, senders, 3)?;
+    put(&mut opened.c0, clock_of(alloc, control)?);
+    put(&mut opened.c1, clock_of(alloc, &DELAYS)?);
+    put(&mut opened.c2, turning(alloc, senders, 0)?);
+    put(&mut opened.c3, turning(alloc, senders, 1)?);
+    put(&mut opened.c4, turning(alloc, senders, 2)?);
+    put(&mut opened.c5, turning(alloc, senders, 3)?);
     Ok(())
 }
 
@@ -610,7 +597,10 @@ fn many(alloc: Global, count: u16, request: &str) -> Result<Vec<Given>, Fail> {
 // A host whose clocks are at 0, and whose general channel gives these.
 fn still_host(alloc: Global, gives: Vec<Given>) -> OnceHost<StagedPort> {
     let mut opened = still(alloc);
-    opened.p4 = StagedPort::new(alloc, gives, Vec::new(alloc));
+    put(
+        &mut opened.p4,
+        StagedPort::new(alloc, gives, Vec::new(alloc)),
+    );
     OnceHost::new(opened)
 }
 

@@ -9,15 +9,13 @@
 
 ghost use Rattle.ptu_config.specs.Limits.{IsGmInRange};
 
-use super::staged::{Given, StagedPort, arriving, still};
-use super::values::{capacity_of, senders_of};
-use super::waiting::{SYNC, request};
+use super::staged::{Given, StagedPort, late_delay_req, put, still, two_asks};
+use super::values::{capacity_of, clock_of, senders_of};
 use ptu_config::GmSettings;
 use ptu_config::samples::GM_SETTINGS;
 use ptu_daemon::serve_within;
 use ptu_outside::samples::OnceHost;
 use ptu_outside::{Clock, MemClock, MemSink, Opened};
-use ptu_units::Moment;
 use std::alloc::Global;
 use std::process::Abort;
 use std::sync::Wait;
@@ -40,56 +38,46 @@ fn settings(rt: &impl Abort, senders: u8) -> GmSettings
     }
 }
 
-// A Delay_Req of the client of table 0.
-const DELAY_REQ: &str = "0112002c040004000000000000000000000000000a0000000000000300010000\
-    017f00000000000000000000";
+// The seconds from 0 on, in milliseconds: more than are read.
+const SECONDS: [u64; 24] = [
+    0, 1000, 2000, 3000, 4000, 5000, 6000, 7000, 8000, 9000, 10_000, 11_000, 12_000, 13_000,
+    14_000, 15_000, 16_000, 17_000, 18_000, 19_000, 20_000, 21_000, 22_000, 23_000,
+];
 
-// A clock that tells the seconds from 0 on.
-fn seconds(alloc: Global) -> Result<MemClock, Fail> {
-    let mut moments = Vec::new(alloc);
-    for second in 0..60u64 {
-        let moment = Moment::of(second * 1_000_000_000);
-        moments.push(moment.ok_or("a moment is below 2^62")?)?;
-    }
-    Ok(MemClock::new(moments))
+// A port that gives these.
+fn giving(alloc: Global, gives: Vec<Given>) -> StagedPort {
+    StagedPort::new(alloc, gives, Vec::new(alloc))
 }
 
-// A host at whose general channel clients of tables 0 and 1 ask for Syncs, and at whose event
-// channel the Delay_Req comes in the second round.
-fn host(alloc: Global) -> Result<OnceHost<StagedPort>, Fail> {
-    let asks = vec![in alloc;
-        arriving(alloc, 0x0a00_0103, request(alloc, "03", SYNC)?.as_str())?,
-        arriving(alloc, 0x0a00_0104, request(alloc, "04", SYNC)?.as_str())?,
-    ]?;
-    let delay = vec![in alloc; Given::Nothing, arriving(alloc, 0x0a00_0103, DELAY_REQ)?]?;
-    let mut opened = still(alloc);
-    opened.p4 = StagedPort::new(alloc, asks, Vec::new(alloc));
-    opened.p5 = StagedPort::new(alloc, delay, Vec::new(alloc));
-    opened.c0 = seconds(alloc)?;
-    opened.c1 = seconds(alloc)?;
-    opened.c2 = seconds(alloc)?;
-    opened.c3 = seconds(alloc)?;
-    opened.c4 = seconds(alloc)?;
-    opened.c5 = seconds(alloc)?;
-    Ok(OnceHost::new(opened))
+// At the general channel clients of tables 0 and 1 ask for Syncs, and at the event channel the
+// Delay_Req comes in the second round. Each clock tells the seconds.
+fn set(alloc: Global, host: &mut OnceHost<StagedPort>) -> Result<(), Fail> {
+    let opened = host.opened.as_mut().ok_or("it is still to be opened")?;
+    put(&mut opened.p4, giving(alloc, two_asks(alloc)?));
+    put(&mut opened.p5, giving(alloc, late_delay_req(alloc)?));
+    put(&mut opened.c0, clock_of(alloc, &SECONDS)?);
+    put(&mut opened.c1, clock_of(alloc, &SECONDS)?);
+    put(&mut opened.c2, clock_of(alloc, &SECONDS)?);
+    put(&mut opened.c3, clock_of(alloc, &SECONDS)?);
+    put(&mut opened.c4, clock_of(alloc, &SECONDS)?);
+    put(&mut opened.c5, clock_of(alloc, &SECONDS)?);
+    Ok(())
 }
 
-// What is given back, and the line, where so many lanes turn tables, and so many threads may be
-// made.
+// The line, where so many lanes turn tables, and so many threads may be made.
 fn serve_with(
     rt: &(impl Abort + Threads + Wait + Sync),
     alloc: Global,
     senders: u8,
     threads: usize,
-) -> Result<(Ports, MemSink), Fail> {
-    let mut host = host(alloc)?;
+    host: &mut OnceHost<StagedPort>,
+) -> Result<MemSink, Fail> {
+    set(alloc, host)?;
     let mut sink = MemSink::new(alloc, Vec::new(alloc));
     let settings = settings(rt, senders);
-    let served = serve_within(rt, alloc, threads, &settings, &mut host, &mut sink);
+    let served = serve_within(rt, alloc, threads, &settings, host, &mut sink);
     assert!(rt; served.is_ok(), "{senders} lanes and {threads} threads");
-    let back = host.back.take();
-    drop(host);
-    Ok((back.ok_or("ports are given back")?, sink))
+    Ok(sink)
 }
 
 // Two ports were sent the same.
@@ -120,6 +108,31 @@ fn assert_alike(rt: &impl Abort, one: &mut Ports, other: &mut Ports) {
     assert_same_moment(rt, &mut one.c5, &mut other.c5);
 }
 
+// What the host is given back.
+fn back<'a>(rt: &impl Abort, host: &'a mut OnceHost<StagedPort>) -> &'a mut Ports {
+    let back = host.back.as_mut();
+    back.expect(rt, "the ports are given back")
+}
+
+// Over the one host without lanes, and over the other with lanes of which one is refused.
+fn assert_same_runs(
+    rt: &(impl Abort + Threads + Wait + Sync),
+    alloc: Global,
+    senders: u8,
+    threads: usize,
+    alone: &mut OnceHost<StagedPort>,
+    refused: &mut OnceHost<StagedPort>,
+) -> Result<(), Fail> {
+    let line = serve_with(rt, alloc, 0, 0, alone)?;
+    let other_line = serve_with(rt, alloc, senders, threads, refused)?;
+    assert!(rt;
+        line.bytes() == other_line.bytes(),
+        "the line without lanes"
+    );
+    assert_alike(rt, back(rt, alone), back(rt, refused));
+    Ok(())
+}
+
 // Where one thread too few may be made, or fewer, all is as without lanes.
 fn assert_refused(
     rt: &(impl Abort + Threads + Wait + Sync),
@@ -127,25 +140,35 @@ fn assert_refused(
     senders: u8,
     threads: usize,
 ) -> Result<(), Fail> {
-    let (mut alone, line) = serve_with(rt, alloc, 0, 0)?;
-    let (mut refused, other_line) = serve_with(rt, alloc, senders, threads)?;
-    assert!(rt;
-        line.bytes() == other_line.bytes(),
-        "the line without lanes"
-    );
-    assert_alike(rt, &mut alone, &mut refused);
-    Ok(())
+    let mut alone = OnceHost::new(still(alloc));
+    let mut refused = OnceHost::new(still(alloc));
+    let same = assert_same_runs(rt, alloc, senders, threads, &mut alone, &mut refused);
+    drop(alone);
+    drop(refused);
+    same
 }
 
 // Where the threads are enough the lane that takes Delay_Reqs has read its clock, once.
+fn assert_read(
+    rt: &(impl Abort + Threads + Wait + Sync),
+    alloc: Global,
+    senders: u8,
+    host: &mut OnceHost<StagedPort>,
+) -> Result<(), Fail> {
+    let _ = serve_with(rt, alloc, senders, 1 + usize::from(senders), host)?;
+    assert_eq!(rt; back(rt, host).c1.now().nanos(), 1_000_000_000);
+    Ok(())
+}
+
 fn assert_made(
     rt: &(impl Abort + Threads + Wait + Sync),
     alloc: Global,
     senders: u8,
 ) -> Result<(), Fail> {
-    let (mut back, _) = serve_with(rt, alloc, senders, 1 + usize::from(senders))?;
-    assert_eq!(rt; back.c1.now().nanos(), 1_000_000_000);
-    Ok(())
+    let mut host = OnceHost::new(still(alloc));
+    let read = assert_read(rt, alloc, senders, &mut host);
+    drop(host);
+    read
 }
 
 // The first thread is refused, or the second, and so on, or none.

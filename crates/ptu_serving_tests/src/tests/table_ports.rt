@@ -4,13 +4,13 @@
 
 ghost use Rattle.ptu_config.specs.Limits.{IsGmInRange};
 
-use super::staged::{StagedPort, arriving, assert_said, still};
+use super::staged::{StagedPort, arriving, assert_said, put, still};
+use super::values::clock_of;
 use super::waiting::{ANNOUNCE, CLIENT, request};
 use ptu_config::GmSettings;
 use ptu_config::samples::GM_SETTINGS;
 use ptu_outside::samples::OnceHost;
 use ptu_outside::{Channel, MemClock, Opened};
-use ptu_units::Moment;
 use std::alloc::Global;
 use std::process::Abort;
 use std::sync::Wait;
@@ -38,29 +38,22 @@ fn asked(alloc: Global, table: usize) -> Result<StagedPort, Fail> {
     Ok(StagedPort::new(alloc, gives, Vec::new(alloc)))
 }
 
-// A clock that tells 0 for the datagram and each turn of the first round, 2 s for the turns of the
-// second, and then 4 s.
-fn clock(alloc: Global) -> Result<MemClock, Fail> {
-    let mut moments = Vec::new(alloc);
-    for second in [0_u64, 0, 0, 0, 0, 2, 2, 2, 2, 4] {
-        let nanos = second.saturating_mul(1_000_000_000);
-        moments.push(Moment::of(nanos).ok_or("a moment is below 2^62")?)?;
-    }
-    Ok(MemClock::new(moments))
-}
+// Clock 0 tells 0 for the datagram and each turn of the first round, 2 s for the turns of the
+// second, and then 4 s, in milliseconds.
+const MOMENTS: [u64; 10] = [0, 0, 0, 0, 0, 2000, 2000, 2000, 2000, 4000];
 
 // The port of this table fails, the client asks at port 4, and clock 0 goes.
 fn set(alloc: Global, table: usize, host: &mut OnceHost<StagedPort>) -> Result<(), Fail> {
     let opened = host.opened.as_mut().ok_or("it is still to be opened")?;
-    let port = failing(alloc)?;
-    match table {
-        0 => opened.p0 = port,
-        1 => opened.p1 = port,
-        2 => opened.p2 = port,
-        _ => opened.p3 = port,
-    }
-    opened.p4 = asked(alloc, table)?;
-    opened.c0 = clock(alloc)?;
+    let own = match table {
+        0 => &mut opened.p0,
+        1 => &mut opened.p1,
+        2 => &mut opened.p2,
+        _ => &mut opened.p3,
+    };
+    put(own, failing(alloc)?);
+    put(&mut opened.p4, asked(alloc, table)?);
+    put(&mut opened.c0, clock_of(alloc, &MOMENTS)?);
     Ok(())
 }
 

@@ -1,13 +1,13 @@
 ghost use Rattle.ptu_config.specs.Limits.{IsGmInRange};
 
-use super::values::{capacity_of, senders_of};
-use super::waiting::{CLIENT, SYNC, asking, grant};
+use super::staged::{put, set_up};
+use super::values::{capacity_of, clock_after, senders_of};
+use super::waiting::{CLIENT, SYNC, asking, grant, port};
 use ptu_config::GmSettings;
 use ptu_config::samples::GM_SETTINGS;
 use ptu_daemon::{Flags, TwoHost, serve, serve_in_two_steps};
-use ptu_outside::samples::opened_with;
-use ptu_outside::{Channel, MemClock, MemHost, MemPort, MemSink};
-use ptu_units::Moment;
+use ptu_outside::samples::{idle_port, opened_with};
+use ptu_outside::{Channel, MemClock, MemHost, MemPort, MemSink, Opened};
 use std::alloc::Global;
 use std::process::Abort;
 use std::sync::Wait;
@@ -35,38 +35,41 @@ const FOLLOW_UP: &str = "0812002c040004000000000000000000000000000a0000000000000
     027f00000000000100000000";
 
 // A clock that answers 0 so many times, and then one second.
-fn clock(alloc: Global, zeros: usize) -> Result<MemClock, Fail> {
-    let mut moments = Vec::new(alloc);
-    for _ in 0..zeros {
-        moments.push(Moment::default())?;
-    }
-    moments.push(Moment::of(1_000_000_000).ok_or("a moment is below 2^63")?)?;
-    Ok(MemClock::new(moments))
+fn clock(alloc: Global, zeros: u64) -> Result<MemClock, Fail> {
+    clock_after(alloc, zeros, 1000)
 }
 
 // A host at whose general channel the ask waits, and at whose port of table 2 the sends with these
 // numbers are to fail. The second round is at one second: a moment is read for the datagram and for
 // the turns of four tables, or, in a lane, for the turns of two. With lanes the clock at which one
 // thread would turn the tables does not come to that second.
+fn set(
+    alloc: Global,
+    senders: u8,
+    failing_sends: &[u64],
+    opened: &mut Opened<MemPort, MemClock>,
+) -> Result<(), Fail> {
+    put(
+        &mut opened.c0,
+        clock(alloc, if senders == 0 { 5 } else { 60 })?,
+    );
+    put(&mut opened.c1, clock(alloc, 0)?);
+    put(&mut opened.c2, clock(alloc, 2)?);
+    put(&mut opened.c3, clock(alloc, 2)?);
+    put(&mut opened.c4, clock(alloc, 0)?);
+    put(&mut opened.c5, clock(alloc, 0)?);
+    put(
+        &mut opened.p2,
+        port(alloc, Vec::new(alloc), failing_sends, &[])?,
+    );
+    put(&mut opened.p4, port(alloc, asking(alloc, SYNC)?, &[], &[])?);
+    Ok(())
+}
+
 fn host(alloc: Global, senders: u8, failing_sends: &[u64]) -> Result<MemHost, Fail> {
-    let c0 = clock(alloc, if senders == 0 { 5 } else { 60 })?;
-    let c1 = clock(alloc, 0)?;
-    let c2 = clock(alloc, 2)?;
-    let c3 = clock(alloc, 2)?;
-    let c4 = clock(alloc, 0)?;
-    let c5 = clock(alloc, 0)?;
-    let ask = asking(alloc, SYNC)?;
-    let sends = failing_sends.to_vec(alloc)?;
-    let general = MemPort::new(alloc, ask, Vec::new(alloc), Vec::new(alloc));
-    let mut opened = opened_with(alloc, general);
-    opened.p2 = MemPort::new(alloc, Vec::new(alloc), sends, Vec::new(alloc));
-    opened.c0 = c0;
-    opened.c1 = c1;
-    opened.c2 = c2;
-    opened.c3 = c3;
-    opened.c4 = c4;
-    opened.c5 = c5;
-    Ok(MemHost::new(opened, false))
+    let mut opened = opened_with(alloc, idle_port(alloc));
+    let set = set(alloc, senders, failing_sends, &mut opened);
+    Ok(MemHost::new(set_up(opened, set)?, false))
 }
 
 // What the port was sent at this place was sent to the client on this channel.
@@ -147,19 +150,38 @@ fn a_sync_is_served_in_two_steps(rt: HostRuntime) -> Result<(), Fail> {
     Ok(())
 }
 
+// The flags of the ports after serving on one thread over this host.
+fn flags_over(
+    rt: &(impl Abort + Threads + Wait + Sync),
+    alloc: Global,
+    host: &mut MemHost,
+) -> Result<Flags, Fail> {
+    let mut two = TwoHost::new(host);
+    let mut sink = MemSink::new(alloc, Vec::new(alloc));
+    serve(rt, alloc, &settings(rt, 0), &mut two, &mut sink)?;
+    Ok(two.flags())
+}
+
+// Likewise, where this send of the port of table 2 fails.
+fn flags_of(
+    rt: &(impl Abort + Threads + Wait + Sync),
+    alloc: Global,
+    failing_send: u64,
+) -> Result<Flags, Fail> {
+    let mut host = host(alloc, 0, &[failing_send])?;
+    let flags = flags_over(rt, alloc, &mut host);
+    drop(host);
+    flags
+}
+
 #[test]
 fn the_flag_of_a_port_that_failed_is_given_back(rt: HostRuntime) -> Result<(), Fail> {
-    let alloc = rt.alloc();
-    for (failing_sends, p2) in [(0, false), (1, true), (2, true)] {
-        let mut host = host(alloc, 0, &[failing_sends])?;
-        let mut two = TwoHost::new(&mut host);
-        let mut sink = MemSink::new(alloc, Vec::new(alloc));
-        serve(&rt, alloc, &settings(&rt, 0), &mut two, &mut sink)?;
+    for (failing_send, p2) in [(0, false), (1, true), (2, true)] {
         let wanted = Flags {
             p2,
             ..Flags::default()
         };
-        assert!(rt; two.flags() == wanted);
+        assert!(rt; flags_of(&rt, rt.alloc(), failing_send)? == wanted);
     }
     Ok(())
 }
