@@ -133,7 +133,7 @@ fn obey(rt: &(impl Abort + Threads + Wait + Sync), alloc: Global, lanes: u64) ->
 
 #[test]
 fn commands_are_obeyed_and_answered(rt: HostRuntime) -> Result<(), Fail> {
-    for lanes in [0, 1, 2, 4] {
+    for &lanes in &[0, 1, 2, 4] {
         obey(&rt, rt.alloc(), lanes)?;
     }
     Ok(())
@@ -157,7 +157,7 @@ fn stop(rt: &(impl Abort + Threads + Wait + Sync), alloc: Global, lanes: u64) ->
 
 #[test]
 fn a_stop_cancels_where_it_is_told_to(rt: HostRuntime) -> Result<(), Fail> {
-    for lanes in [0, 1, 2, 4] {
+    for &lanes in &[0, 1, 2, 4] {
         stop(&rt, rt.alloc(), lanes)?;
     }
     Ok(())
@@ -171,8 +171,8 @@ fn four_asks(alloc: Global) -> Result<Vec<Arrival>, Fail>
     ensures { IfOk result (λ waiting. FitAll waiting.items) }
 {
     let mut waiting = Vec::new(alloc);
-    for octet in OCTETS {
-        let ask = request(alloc, octet, ANNOUNCE)?;
+    for octet in &OCTETS {
+        let ask = request(alloc, *octet, ANNOUNCE)?;
         push(&mut waiting, CLIENT, hex::decode(alloc, ask.as_str())?)?;
     }
     Ok(waiting)
@@ -245,7 +245,7 @@ fn announce(
 
 #[test]
 fn a_class_is_that_of_all_tables(rt: HostRuntime) -> Result<(), Fail> {
-    for lanes in [0, 1, 2, 4] {
+    for &lanes in &[0, 1, 2, 4] {
         announce(&rt, rt.alloc(), lanes)?;
     }
     Ok(())
@@ -272,7 +272,7 @@ fn fail_twice(
 
 #[test]
 fn faults_of_the_control_port_are_not_counted(rt: HostRuntime) -> Result<(), Fail> {
-    for lanes in [0, 2] {
+    for &lanes in &[0, 2] {
         fail_twice(&rt, rt.alloc(), lanes)?;
     }
     Ok(())

@@ -81,7 +81,7 @@ fn assert_shed(
 // By one thread and by lanes.
 #[test]
 fn an_ask_is_granted_and_its_grant_shed(rt: HostRuntime) -> Result<(), Fail> {
-    for lanes in [0, 2] {
+    for &lanes in &[0, 2] {
         assert_granted(&rt, rt.alloc(), lanes)?;
         assert_shed(&rt, rt.alloc(), lanes, false)?;
         assert_shed(&rt, rt.alloc(), lanes, true)?;
@@ -140,7 +140,7 @@ fn assert_repeated(
 
 #[test]
 fn rounds_are_repeated(rt: HostRuntime) -> Result<(), Fail> {
-    for lanes in [0, 1, 4] {
+    for &lanes in &[0, 1, 4] {
         assert_repeated(&rt, rt.alloc(), lanes)?;
     }
     Ok(())

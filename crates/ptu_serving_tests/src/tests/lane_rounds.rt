@@ -252,7 +252,7 @@ fn asking(alloc: Global, note: Note) -> Result<Given, Fail> {
 // What the general channel gives.
 fn general(alloc: Global, fault: Fault) -> Result<Vec<Given>, Fail> {
     let mut gives = Vec::new(alloc);
-    for ask in ASKS {
+    for &ask in &ASKS {
         gives.push(asking(alloc, ask)?)?;
     }
     gives.push(pause(fault, 4))?;
@@ -301,7 +301,7 @@ fn turning(alloc: Global, senders: u8, lane: usize) -> Result<MemClock, Fail>
     requires { 1 ≤ senders }
 {
     let mut millis = Vec::new(alloc);
-    for (table, at) in TURNS {
+    for &(table, at) in &TURNS {
         if table % usize::from(senders) == lane {
             millis.push(at)?;
         }
@@ -568,7 +568,7 @@ fn assert_all_serve(
 
 #[test]
 fn lanes_serve_three_rounds(rt: HostRuntime) -> Result<(), Fail> {
-    for case in CASES {
+    for &case in &CASES {
         assert_all_serve(&rt, rt.alloc(), case)?;
     }
     Ok(())
@@ -737,7 +737,7 @@ fn assert_cancelled(
 fn cancels_of_each_kind_make_room(rt: HostRuntime) -> Result<(), Fail> {
     let alloc = rt.alloc();
     let mut gives = Vec::new(alloc);
-    for note in CANCELLING {
+    for &note in &CANCELLING {
         gives.push(asking(alloc, note)?)?;
     }
     let mut host = still_host(alloc, gives);

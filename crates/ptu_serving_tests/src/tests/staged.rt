@@ -58,7 +58,7 @@ const DELAY_REQ: &str = "0112002c040004000000000000000000000000000a0000000000000
 /// Clients of tables 0 and 1 ask for Syncs.
 pub(crate) fn two_asks(alloc: Global) -> Result<Vec<Given>, Fail> {
     let mut gives = Vec::new(alloc);
-    for (ip, octet) in [(0x0a00_0103, "03"), (0x0a00_0104, "04")] {
+    for &(ip, octet) in &[(0x0a00_0103, "03"), (0x0a00_0104, "04")] {
         let ask = request(alloc, octet, SYNC)?;
         gives.push(arriving(alloc, ip, ask.as_str())?)?;
     }

@@ -68,13 +68,17 @@ fn number_sent(port: &StagedPort) -> Option<u8> {
 
 // The port of this table alone was sent one Announce, of number 1.
 fn assert_numbers(rt: &impl Abort, back: &Opened<StagedPort, MemClock>, table: usize) {
-    for (index, port) in [&back.p0, &back.p1, &back.p2, &back.p3]
-        .into_iter()
-        .enumerate()
-    {
-        let wanted = if index == table { Some(1) } else { None };
-        assert_eq!(rt; number_sent(port), wanted);
+    let numbers = [
+        number_sent(&back.p0),
+        number_sent(&back.p1),
+        number_sent(&back.p2),
+        number_sent(&back.p3),
+    ];
+    let mut wanted = [None; 4];
+    if let Some(own) = wanted.get_mut(table) {
+        *own = Some(1);
     }
+    assert_eq!(rt; numbers, wanted);
 }
 
 // Serves over a host with a client of this table, the first send of whose port fails.

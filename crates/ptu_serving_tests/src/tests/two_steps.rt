@@ -142,7 +142,7 @@ fn a_sync_is_served_in_two_steps(rt: HostRuntime) -> Result<(), Fail> {
     let halved = "rounds 2 sent 1 failed 1 granted 1 refused 0 held 16\n";
     let sync = (Channel::Event, SENT_SYNC);
     let follow_up = (Channel::General, FOLLOW_UP);
-    for senders in [0, 2] {
+    for &senders in &[0, 2] {
         assert_served(&rt, alloc, senders, &[], whole, &[sync, follow_up])?;
         assert_served(&rt, alloc, senders, &[1], halved, &[follow_up])?;
         assert_served(&rt, alloc, senders, &[2], halved, &[sync])?;
@@ -176,7 +176,7 @@ fn flags_of(
 
 #[test]
 fn the_flag_of_a_port_that_failed_is_given_back(rt: HostRuntime) -> Result<(), Fail> {
-    for (failing_send, p2) in [(0, false), (1, true), (2, true)] {
+    for &(failing_send, p2) in &[(0, false), (1, true), (2, true)] {
         let wanted = Flags {
             p2,
             ..Flags::default()

@@ -128,7 +128,7 @@ fn assert_sent(
     octets: &[u8],
 ) -> Result<(), AllocError> {
     assert_written(rt, kept, length, octets);
-    for beyond in [0, 2] {
+    for &beyond in &[0, 2] {
         let whole = datagram(alloc, octets, usize::from(length) + beyond)?;
         assert_read(rt, kept, length, &whole);
     }

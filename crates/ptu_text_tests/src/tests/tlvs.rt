@@ -40,7 +40,7 @@ const REQUESTS: [(u8, i8, u32, [u8; 12]); 6] = [
 
 #[test]
 fn requests_are_written(rt: HostRuntime) {
-    for (code, log, seconds, wanted) in REQUESTS {
+    for &(code, log, seconds, wanted) in &REQUESTS {
         assert!(rt; code < 16);
         let mut out = [0xdd; 12];
         let size = write_tlv(&Tlv::Request(Ask { code, log, seconds }), &mut out);

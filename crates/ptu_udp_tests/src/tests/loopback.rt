@@ -64,7 +64,7 @@ fn a_datagram_of_the_event_channel_comes_to_port_5(rt: HostRuntime) {
 
 // Datagrams of these sizes are sent by one port, and only the last comes to the other.
 fn assert_left_out<P: Port>(rt: &impl Abort, from: &mut P, to: &mut P) {
-    for bytes in [&[7; 3000][..], &[8; 2049][..], &[9; 2048][..]] {
+    for &bytes in &[&[7; 3000][..], &[8; 2049][..], &[9; 2048][..]] {
         assert!(rt; from.send(LOOPBACK, Channel::General, bytes).is_ok());
     }
     let mut buf = [0; 2048];
@@ -99,9 +99,9 @@ fn nanos<R: time::Clock + Copy>(opened: &mut SystemPorts<R>) -> [u64; 6] {
 fn assert_together<R: time::Clock + Copy>(rt: &impl Abort, opened: &mut SystemPorts<R>) {
     let mut last = 0;
     for _i in 0..1000 {
-        for nanos in nanos(opened) {
-            assert!(rt; last <= nanos);
-            last = nanos;
+        for nanos in &nanos(opened) {
+            assert!(rt; last <= *nanos);
+            last = *nanos;
         }
     }
 }

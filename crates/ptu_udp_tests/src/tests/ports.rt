@@ -46,7 +46,7 @@ const SENDS: [(u64, (bool, u64, u64)); 5] = [
 // very end of the 50 ms, one that waits longer, and one that tries without a rest.
 #[test]
 fn a_send_waits_for_room(rt: HostRuntime) -> Result<(), Fail> {
-    for (full, said) in SENDS {
+    for &(full, said) in &SENDS {
         assert_eq!(rt; send_when(rt.alloc(), full)?, said);
     }
     Ok(())

@@ -125,7 +125,7 @@ const ENDS: [(Comes, u64, u64); 5] = [
 // nap, and one that watches one socket alone.
 #[test]
 fn a_wait_ends_where_a_datagram_comes(rt: HostRuntime) -> Result<(), Fail> {
-    for (comes, until, end) in ENDS {
+    for &(comes, until, end) in &ENDS {
         assert_waits_where(&rt, rt.alloc(), comes, &[(until, end)])?;
     }
     Ok(())
