@@ -79,20 +79,6 @@ listed_next j rows i row before e =
     (ap (map candidate_of) (map_more (found_in j) rows i row (slice_get_within rows i row e) ∙ ap (λ r. map (found_in j) (take i rows) ++ found_in j r ∷ []) (get_or_from_slice_get rows i row row e))
     ∙ map-append candidate_of (map (found_in j) (take i rows)) (found_in j row ∷ [])))
 
--- table by table all rows are listed
-pub listed_all : (xs ys zs us : List Found) →
-    (((([] ++ map candidate_of xs) ++ map candidate_of ys) ++ map candidate_of zs) ++ map candidate_of us) ≡ map candidate_of (xs ++ (ys ++ (zs ++ (us ++ []))))
-listed_all xs ys zs us =
-    let X : List Candidate = map candidate_of xs in
-    let Y : List Candidate = map candidate_of ys in
-    let Z : List Candidate = map candidate_of zs in
-    let U : List Candidate = map candidate_of us in
-    append_assoc (X ++ Y) Z U ∙ append_assoc X Y (Z ++ U)
-    ∙ sym (map-append candidate_of xs (ys ++ (zs ++ (us ++ [])))
-    ∙ ap (λ cs. X ++ cs) (map-append candidate_of ys (zs ++ (us ++ []))
-    ∙ ap (λ cs. Y ++ cs) (map-append candidate_of zs (us ++ [])
-    ∙ ap (λ cs. Z ++ cs) (map-append candidate_of us [] ∙ append-nil U))))
-
 -- a candidate's row in the table at its index is one of the four tables' rows
 module _ {P : Type 0} (a b c d : Kept P) (candidate : Candidate) (xs : List Row) (j : ℕ) (at : candidate.table ≡ j) (rows : rows_of_lent j (four a b c d) ≡ xs) where
   pub found_at : j < 4 → (result : Option Found) → IfSome result (λ f. Contains xs f.row × (candidate_of f ≡ candidate)) →

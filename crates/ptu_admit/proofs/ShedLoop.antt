@@ -185,10 +185,7 @@ passes_change n capacity a b c d h s = (
     pass : (j : ℕ) (xs : List Row) (moment : ℕ) → StandsAt n j xs moment h → StandsAt n j xs moment (h ++ Capacity n capacity ∷ [])
     pass j xs moment st = stands_elsewhere n j moment h xs st (Capacity n capacity) (λ d i own. refl) (omega arith)
 
--- it leaves what is shed
-pub order_changed : (h : List Record) (n capacity : ℕ) → shed_order (h ++ Capacity n capacity ∷ []) n ≡ shed_order h n
 unfolding shed_order live_grants
-order_changed h n capacity = ap (λ gs. in_order shed_cmp (filter (λ g. ltb n g.until) gs)) (standing-undecided h (Capacity n capacity) refl)
 
 sheds_are : (n : ℕ) (gs : List Grant) → map (shed_at n) (map shed_of gs) ≡ map (shed_record n) gs
 sheds_are n [] = refl

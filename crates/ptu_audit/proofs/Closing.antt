@@ -52,22 +52,6 @@ module _ (old new : Auditor) (r : Reading) (s : StandsFor old r) (last : new.las
         ended = ended ∙ s.ended;
       }
 
--- a closed auditor stands for what was read, where the `end` line came
-pub closed_stands : (a : Auditor) (r : Reading) → a.group.items ≡ [] → HasClosed a r → r.ended ≡ true → StandsFor a r
-closed_stands a r none h ended = record {
-  judged = groups_of r.lines;
-  groups = subst (λ g. groups_of r.lines ≡ groups_of r.lines ++ one_group g) (sym none) (sym (append-nil (groups_of r.lines)));
-  begun = λ e. absurd (differ (sym ended ∙ e));
-  found = h.found;
-  kept = h.kept;
-  capacity = h.capacity;
-  last = h.last;
-  ended = h.ended;
-}
-  where
-    differ : true ≡ false → ⊥
-    differ e = absurd cc
-
 -- before any line
 pub nothing_read : (a : Auditor) (capacity : ℕ) → a.group.items ≡ [] → a.found ≡ None → a.last ≡ 0 → a.ended ≡ false → AreKept a.ledger [] → a.ledger.capacity ≡ capacity → StandsFor a (first_reading capacity)
 unfolding groups_of last_script

@@ -205,50 +205,11 @@ none_body line no_ignored = rw (
 
 -- ---- what is read of a word tells that it is there
 
-log_there : (kind : Kind) (line : List ℕ) (k : ℕ) (log : ℤ) → field k (log_of_kind kind) line ≡ Some log → is_some (field k octet_log line) ≡ true
 unfolding field
-log_there kind line k log = at (word_of line k)
-  where
-    read : (word : List ℕ) (o : Option ℤ) → octet_log word ≡ o → log_of_kind kind word ≡ Some log → is_some o ≡ true
-    read word (Some z) is e = refl
-    read word None is e = absurd (let never : None ≡ Some log = ap (option_and_then (int_within (least_log kind) (pos 4))) (sym is) ∙ log_of_kind_wide kind word ∙ e in cc)
 
-    at : (o : Option (List ℕ)) → option_and_then (log_of_kind kind) o ≡ Some log → is_some (option_and_then octet_log o) ≡ true
-    at None e = absurd cc
-    at (Some word) e = read word (octet_log word) refl e
-
-outside_there : (kind : Kind) (line : List ℕ) (k : ℕ) (log : ℤ) → field k (log_outside kind) line ≡ Some log → is_some (field k octet_log line) ≡ true
 unfolding field log_outside
-outside_there kind line k log = at (word_of line k)
-  where
-    read : (word : List ℕ) (b : Bool) (o : Option ℤ) → (if b then None else o) ≡ Some log → is_some o ≡ true
-    read word true o e = absurd cc
-    read word false None e = absurd cc
-    read word false (Some z) e = refl
 
-    at : (o : Option (List ℕ)) → option_and_then (log_outside kind) o ≡ Some log → is_some (option_and_then octet_log o) ≡ true
-    at None e = absurd cc
-    at (Some word) e = read word (is_some (log_of_kind kind word)) (octet_log word) e
-
-word_there : {A : Type 0} (form : List ℕ → Option A) (line : List ℕ) (k : ℕ) (x : A) → field k form line ≡ Some x → is_some (word_of line k) ≡ true
 unfolding field
-word_there form line k x = at (word_of line k)
-  where
-    at : (o : Option (List ℕ)) → option_and_then form o ≡ Some x → is_some o ≡ true
-    at None e = absurd cc
-    at (Some word) e = refl
-
-pub octet_of_log : (kind : Kind) (line : List ℕ) (k : ℕ) (read : Option ℤ) → read ≡ field k (log_of_kind kind) line → OnSome read (is_some (field k octet_log line) ≡ true)
-octet_of_log kind line k None is = tt
-octet_of_log kind line k (Some log) is = log_there kind line k log (sym is)
-
-pub octet_outside : (kind : Kind) (line : List ℕ) (k : ℕ) (read : Option ℤ) → read ≡ field k (log_outside kind) line → OnSome read (is_some (field k octet_log line) ≡ true)
-octet_outside kind line k None is = tt
-octet_outside kind line k (Some log) is = outside_there kind line k log (sym is)
-
-pub word_of_read : {A : Type 0} (form : List ℕ → Option A) (line : List ℕ) (k : ℕ) (read : Option A) → read ≡ field k form line → OnSome read (is_some (word_of line k) ≡ true)
-word_of_read form line k None is = tt
-word_of_read form line k (Some x) is = word_there form line k x (sym is)
 
 -- ---- what is opened where a line is read
 

@@ -5,10 +5,6 @@ use Rattle.toml.specs.{declared.value.Value.{Value}, Data.{as_table}, View.{view
 use Rattle.ptu_config.specs.declared.master.MasterSetting.{MasterSetting}
 use Rattle.ptu_config.specs.Masters.{master_of, masters_of}
 
--- what one value is
-abbrev pub master_at : Value → Option MasterSetting
-master_at value = option_and_then master_of (as_table (view value))
-
 -- these masters, followed by those of these values
 abbrev pub followed : List MasterSetting → List Value → Option (List MasterSetting)
 followed done values = option_map (λ rest. done ++ rest) (masters_of (items_view values))

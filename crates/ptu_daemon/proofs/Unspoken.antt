@@ -11,11 +11,6 @@ use Rattle.ptu_daemon.specs.Commands.{AreAll, AreSpoken, DoneRound, HaveHappened
 use Rattle.ptu_daemon.specs.Serving.{AreUnspoken}
 use Rattle.ptu_daemon.proofs.Commands.{rounds_are, until_none}
 
--- a control port that is not there is not given back
-pub none_back : {P : Type 0} (ports : Ports P) (control' : Option P) (answers : List Departure) → WasHandedAt ports None control' answers → control' ≡ None
-none_back ports None answers h = refl
-none_back ports (Some q) answers h = absurd h
-
 -- nothing was taken of a control port that is not there
 pub nothing_given : {P : Type 0} (ports : Ports P) (control control' : Option P) (answers : List Departure) (taken : List Arrival) →
     control ≡ None → WasHandedAt ports control control' answers → Gave (waits_at ports control) (waits_at ports control') taken → taken ≡ []

@@ -21,9 +21,7 @@ pub table_moment-push : (history : List Record) (r : Record) (j : ℕ) → table
 unfolding table_moment
 table_moment-push history r j = greatest_by-push (table_part j) history r
 
-pub book_moment-append : (history more : List Record) → book_moment (history ++ more) ≡ max (book_moment history) (book_moment more)
 unfolding book_moment
-book_moment-append history more = greatest_by-append book_part history more
 
 pub table_moment-append : (history more : List Record) (j : ℕ) → table_moment (history ++ more) j ≡ max (table_moment history j) (table_moment more j)
 unfolding table_moment

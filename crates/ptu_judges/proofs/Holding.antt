@@ -42,9 +42,6 @@ flag_told opening L t m before unusable s = record {
   keeps = rw (flag-push L (Told t m unusable)) refl;
 }
 
-pub flag_assessed : (opening : Option Rule) (L : Record) (unusable : Bool) → StandsFor opening L (flag_held unusable) → IsAssessment opening L unusable
-flag_assessed opening L unusable s = rw (← s.rule) s.keeps
-
 -- a judge of gaps
 pub gaps_heard : (opening : Option Rule) (L : Record) (t m number : ℕ) (old new : Gaps) → number < 65536 → new.missing ≡ old.missing → new.flag ≡ old.flag → new.marks ≡ marks_after old.marks number
     → StandsFor opening L (gaps_held old) → StandsFor opening (L ++ Sync t m number ∷ []) (gaps_held new)

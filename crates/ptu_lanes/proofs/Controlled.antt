@@ -19,10 +19,6 @@ use Rattle.ptu_lanes.proofs.{AllRounds.{unspoken_each}, Moments.{all_rounds_of, 
 
 -- ---- facts on what was answered
 
-pub if_ok : {A E : Type 0} (r : Result A E) (P Q : A → Type 0) → ((x : A) → P x → Q x) → IfOk r P → IfOk r Q
-if_ok (Ok x) P Q makes p = makes x p
-if_ok (Err e) P Q makes p = tt
-
 -- ---- the whole
 
 still_idle : {P C : Type 0} (ports : Ports P) (opened closed : Opened P C) (seen : ℕ → Seen) →

@@ -64,14 +64,6 @@ table_moment-at x j (r ∷ rs) history at past =
     subst (λ h. table_moment h j ≤ x) (append_assoc history (r ∷ []) rs)
     (table_moment-at x j rs (history ++ r ∷ []) at.1 (let e : table_moment (history ++ r ∷ []) j ≡ max (table_moment history j) (table_part j r) = table_moment-push history r j in omega (arith, table_part-le j r, at.0)))
 
--- the core takes no event before the book's moment
-pub core_moment-book : (history : List Record) (t : ℕ) (event : Event) → book_moment history ≤ core_moment history t event
-core_moment-book history t (Request c ask) = (table_step_moment-bounds history t (table_of c)).1
-core_moment-book history t (Cancel c k) = (table_step_moment-bounds history t (table_of c)).1
-core_moment-book history t (Turn j) = (table_step_moment-bounds history t j).1
-core_moment-book history t (DelayReq c) = (table_step_moment-bounds history t (table_of c)).1
-core_moment-book history t (Resize capacity) = (book_step_moment-bounds history t).1
-
 -- what holds of the empty history and is kept by each event holds of every history
 pub by_events : (config : Config) (P : List Record → Type 0) → P [] →
     ((before : List Record) (t : ℕ) (event : Event) → P before → P (before ++ (core_step config before t event).records)) →

@@ -50,22 +50,6 @@ several (Some byte) (x ∷ xs) some = refl
 bytes_some : (word : List ℕ) → 0 < length (bytes_of word)
 bytes_some word = omega (arith, length-map (slice_split is_dot word) (λ part. number_within part 0 255), length-slice_split is_dot word)
 
--- the number before a dot, where no octet behind the first is a dot
-pub cut_one : (a : ℕ) (rest : List ℕ) → first_of_several (bytes_of (a ∷ 46 ∷ rest)) ≡ option_map (λ byte. (byte, bytes_of rest)) (number_within (a ∷ []) 0 255)
-cut_one a rest = go (eqb a 46) refl
-  where
-    go : (b : Bool) → eqb a 46 ≡ b → first_of_several (bytes_of (a ∷ 46 ∷ rest)) ≡ option_map (λ byte. (byte, bytes_of rest)) (number_within (a ∷ []) 0 255)
-    go true e = rw (byte_dotted (a ∷ []) 0 (omega arith) (eqb-true a 46 e), e) refl
-    go false e = rw e (several (number_within (a ∷ []) 0 255) (bytes_of rest) (bytes_some rest))
-
-pub cut_two : (a b : ℕ) (rest : List ℕ) → eqb b 46 ≡ false
-    → first_of_several (bytes_of (a ∷ b ∷ 46 ∷ rest)) ≡ option_map (λ byte. (byte, bytes_of rest)) (number_within (a ∷ b ∷ []) 0 255)
-cut_two a b rest hb = go (eqb a 46) refl
-  where
-    go : (t : Bool) → eqb a 46 ≡ t → first_of_several (bytes_of (a ∷ b ∷ 46 ∷ rest)) ≡ option_map (λ byte. (byte, bytes_of rest)) (number_within (a ∷ b ∷ []) 0 255)
-    go true e = rw (byte_dotted (a ∷ b ∷ []) 0 (omega arith) (eqb-true a 46 e), e) refl
-    go false e = rw (e, hb) (several (number_within (a ∷ b ∷ []) 0 255) (bytes_of rest) (bytes_some rest))
-
 pub cut_three : (a b c : ℕ) (rest : List ℕ) → eqb b 46 ≡ false → eqb c 46 ≡ false
     → first_of_several (bytes_of (a ∷ b ∷ c ∷ 46 ∷ rest)) ≡ option_map (λ byte. (byte, bytes_of rest)) (number_within (a ∷ b ∷ c ∷ []) 0 255)
 cut_three a b c rest hb hc = go (eqb a 46) refl
@@ -125,18 +109,6 @@ none_first [] e = refl
 none_first (None ∷ xs) e = refl
 none_first (Some a ∷ []) e = refl
 none_first (Some a ∷ x ∷ xs) e = absurd cc
-
-pub none_second : (a : ℕ) (xs : List (Option ℕ)) → first_of_several xs ≡ None → address_of (Some a ∷ xs) ≡ None
-none_second a [] e = refl
-none_second a (None ∷ xs) e = refl
-none_second a (Some b ∷ []) e = refl
-none_second a (Some b ∷ x ∷ xs) e = absurd cc
-
-pub none_third : (a b : ℕ) (xs : List (Option ℕ)) → first_of_several xs ≡ None → address_of (Some a ∷ Some b ∷ xs) ≡ None
-none_third a b [] e = refl
-none_third a b (None ∷ xs) e = refl
-none_third a b (Some c ∷ []) e = refl
-none_third a b (Some c ∷ x ∷ xs) e = absurd cc
 
 pub first_is : (xs rest : List (Option ℕ)) (a : ℕ) → first_of_several xs ≡ Some (a, rest) → xs ≡ Some a ∷ rest
 first_is [] rest a e = absurd cc

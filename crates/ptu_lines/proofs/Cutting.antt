@@ -351,10 +351,6 @@ at_end-nothing before waiting None is_ended found enough le none =
     ] in
     (nil_from_length waiting zero, end)
 
-pub to_come-end : (before : ℕ) (waiting : List ℕ) (left : Option (List ℕ)) → waiting ≡ [] → IsAtEnd left → IfSome (lines_to_come before waiting left) (λ lines. lines ≡ [])
-to_come-end before waiting None e end = tt
-to_come-end before waiting (Some after) e end = rw (e, end) refl
-
 -- what is known of a line is a line, or a front of one
 pub known-is_line : (waiting : List ℕ) (place : Option ℕ) → place ≡ position is_end (take 8193 waiting) → AreLines (known_of place waiting ∷ [])
 known-is_line waiting (Some at) found = let e = ends_at waiting at found in ((e.line, e.no_end, inl (known-ended waiting at e)), tt)

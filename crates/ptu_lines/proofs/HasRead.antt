@@ -15,18 +15,6 @@ pub record HasRead {S : Type 0} (left : S → Option (List ℕ)) (ends : S → O
   pub ends_so : IsReadToEnd old.is_ended (ends from) → IsReadToEnd new.is_ended (ends to)
   pub still : faults to ≡ faults from
 
-pub HasRead-start : {S : Type 0} (left : S → Option (List ℕ)) (ends : S → Option ℕ) (faults : S → ℕ) (buffer : Held) (source : S)
-    → AgreesOnEnd buffer.is_ended (left source) → HasRead left ends faults buffer buffer source source
-HasRead-start left ends faults buffer source in_step = record {
-  octets = [];
-  waiting = sym (append-nil buffer.waiting);
-  told = sym (prepend_known-nil (left source));
-  in_step = in_step;
-  stays = λ h. h;
-  ends_so = λ h. h;
-  still = refl;
-}
-
 -- more octets, read behind those
 pub told-more : (old now new : Option (List ℕ)) (xs ys : List ℕ) → old ≡ prepend_known xs now → now ≡ prepend_known ys new → old ≡ prepend_known (xs ++ ys) new
 told-more old now new xs ys e f = e ∙ (ap (prepend_known xs) f ∙ prepend_known-append new xs ys)

@@ -71,16 +71,6 @@ pub position_is : (test : ℕ → Bool) (xs : List ℕ) (r : Option ℕ) → IsF
 position_is test xs None h = none_position test xs (none_in test xs h)
 position_is test xs (Some p) h = cut_position test xs p (cuts_at test xs p h)
 
--- the first place, found in the front, or behind a front that has none
-pub cut_front : (test : ℕ → Bool) (xs : List ℕ) (n p : ℕ) → n ≤ length xs → CutsAt test (take n xs) p → CutsAt test xs p
-cut_front test xs n p le c =
-    let short : p < n = omega (arith, c.within, length-take-le n xs le) in
-    record {
-      within = omega (arith, short, le);
-      passes = rw (get_or-take n xs p 0 short) at c.passes;
-      before = λ k lt. rw (get_or-take n xs k 0 (omega (arith, lt, short))) at (c.before k lt);
-    }
-
 none_front : (test : ℕ → Bool) (xs : List ℕ) (n k : ℕ) → n ≤ length xs → NoneIn test (take n xs) → k < n → test (slice_index xs k) ≡ false
 none_front test xs n k le h lt = rw (get_or-take n xs k 0 lt) at (h k (omega (arith, lt, length-take-le n xs le)))
 

@@ -123,13 +123,6 @@ is_sent message front body size body-is size-is front-is =
     let all : size ≡ 34 + length (sent_body message.body) = size-is ∙ ap (λ (o : List ℕ). 34 + length o) body-is in
     record { size_is = omega arith; octets = front-is ∙ λ i. sent_header message.header (all i) ++ body-is i }
 
-pub is_read_again : (message : Message) (front body : List ℕ) (size : ℕ) → body ≡ sent_body message.body → size ≡ 34 + length body → front ≡ sent_header message.header size ++ body
-    → IsFixed message → HasBodyWidths message.body → AlwaysSpellsHeader (sent_header message.header size) message.header size → AlwaysSpells front message
-is_read_again message front body size body-is size-is front-is fixed wide again =
-    let all : size ≡ 34 + length (sent_body message.body) = size-is ∙ ap (λ (o : List ℕ). 34 + length o) body-is in
-    let same : front ≡ sent_header message.header size ++ sent_body message.body = front-is ∙ ap (λ (o : List ℕ). sent_header message.header size ++ o) body-is in
-    subst (λ (o : List ℕ). AlwaysSpells o message) (sym same) (fixed_spells message.header message.body size all again fixed.kind fixed.body wide)
-
 -- ---- from the widths of its fields
 
 AreSpelled-sent : (tlvs : List Tlv) → All HasWidths tlvs → All IsSendable tlvs → AreSpelled (flat_map sent_tlv tlvs) tlvs

@@ -7,11 +7,6 @@ pub IfTold-refl : {A : Type 0} (told : Option A) → IfTold told told
 IfTold-refl None = tt
 IfTold-refl (Some x) = refl
 
-pub IfTold-trans : {A : Type 0} (told old new : Option A) → IfTold old told → IfTold new old → IfTold new told
-IfTold-trans told old None first second = tt
-IfTold-trans told None (Some x) first second = absurd (cc second)
-IfTold-trans told (Some y) (Some x) first second = first ∙ second
-
 pub append_told-nil : {A : Type 0} (told : Option (List A)) → append_told told [] ≡ told
 append_told-nil None = refl
 append_told-nil (Some xs) = ap Some (append-nil xs)
@@ -28,8 +23,3 @@ IfTold-append start None (Some zs) xs ys first second = absurd (cc second)
 IfTold-append start (Some ws) (Some zs) xs ys first second =
     rw (← append_told-append start xs ys, first) second
 
--- what is told now was told before
-pub told_before : {A : Type 0} (old new : Option (List A)) (xs : List A) → IfTold new (append_told old xs) → IsSome new → IsSome old
-told_before old None xs h is = absurd (cc is)
-told_before None (Some zs) xs h is = absurd (cc h)
-told_before (Some ws) (Some zs) xs h is = refl

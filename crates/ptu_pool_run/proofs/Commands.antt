@@ -20,18 +20,6 @@ pub set_up_again : (told : Told) (setup before : GrandmasterSetup) (p after : Po
     IsOutcome (told_setup told setup told.setup) (StandsFor after) [] (Some Order)
 set_up_again told setup before p after s is = subst (λ o. IsOutcome (told_setup told setup o) (StandsFor after) [] (Some Order)) (sym (s.setup ∙ is)) refl
 
-pub set_up_once : (told : Told) (setup : GrandmasterSetup) (p : Pouring) → StandsFor p told → p.setup ≡ None →
-    IsOutcome (told_setup told setup told.setup) (StandsFor (record p { setup = Some setup })) [] None
-set_up_once told setup p s none =
-    subst (λ o. IsOutcome (told_setup told setup o) (StandsFor (record p { setup = Some setup })) [] None) (sym (s.setup ∙ none))
-    (record { setup = refl; begun = s.begun; sold = by p.setup p.pools none s.sold }, refl)
-  where
-    by : (o : Option GrandmasterSetup) (k : Option (KeptPools MemoryPort)) → o ≡ None → HaveSold o k told → HaveSold (Some setup) k (record told { setup = Some setup })
-    by None None e h = h
-    by (Some x) None e h = h
-    by None (Some kept) e h = absurd h
-    by (Some x) (Some kept) e h = absurd cc
-
 -- ---- a pool is sold
 
 pub sold_are : (p : Pouring) (told : Told) → StandsFor p told → told.pools ≡ pools_of p.pools
@@ -49,19 +37,6 @@ share_of p told setup s is = by p.pools (subst (λ o. HaveSold o p.pools told) i
     by : (k : Option (KeptPools MemoryPort)) → HaveSold (Some setup) k told → Share setup.capacity (pools_of k)
     by None h = none_share setup.capacity
     by (Some kept) h = h.1.share
-
-pub sold_unset : (told : Told) (pool : Pool) (p after : Pouring) → StandsFor p told → p.setup ≡ None →
-    IsOutcome (sold told pool told.setup told.events) (StandsFor after) [] (Some Order)
-sold_unset told pool p after s none = subst (λ o. IsOutcome (sold told pool o told.events) (StandsFor after) [] (Some Order)) (sym (s.setup ∙ none)) refl
-
-pub sold_late : (told : Told) (pool : Pool) (setup : GrandmasterSetup) (p after : Pouring) → StandsFor p told → p.setup ≡ Some setup → p.has_begun ≡ true →
-    IsOutcome (sold told pool told.setup told.events) (StandsFor after) [] (Some Order)
-sold_late told pool setup p after s is begun =
-    subst (λ o. IsOutcome (sold told pool o told.events) (StandsFor after) [] (Some Order)) (sym (s.setup ∙ is)) (by told.events (sym s.begun ∙ begun))
-  where
-    by : (events : List At) → has_events events ≡ true → IsOutcome (sold told pool (Some setup) events) (StandsFor after) [] (Some Order)
-    by [] e = absurd (let never : false ≡ true = e in cc)
-    by (event ∷ events) e = refl
 
 -- where nothing has happened
 none_happened : (events : List At) → has_events events ≡ false → events ≡ []
@@ -97,14 +72,6 @@ module _ (told : Told) (pool : Pool) (setup : GrandmasterSetup) (p : Pouring) (s
       )
 
 -- ---- an event happens
-
-pub before_pools : (told : Told) (p after : Pouring) (then_ : GrandmasterSetup → Outcome Told PoolCause) (texts : List (List ℕ)) → StandsFor p told → p.pools ≡ None →
-    IsOutcome (behind_pools told.setup told.pools then_) (StandsFor after) texts (Some Order)
-before_pools told p after then_ texts s none = subst (λ l. IsOutcome (behind_pools told.setup l then_) (StandsFor after) texts (Some Order)) (sym (sold_are p told s ∙ ap pools_of none)) (by told.setup)
-  where
-    by : (o : Option GrandmasterSetup) → IsOutcome (behind_pools o [] then_) (StandsFor after) texts (Some Order)
-    by None = refl
-    by (Some setup) = refl
 
 -- the grandmaster and its pools, where there are any
 pub record HasPools (told : Told) (p : Pouring) (kept : KeptPools MemoryPort) : Type 0 where

@@ -23,9 +23,7 @@ pub unfit : (form line : List ℕ) → fits form line ≡ false → fitting form
 unfolding fitting
 unfit form line e = rw e refl
 
-pub fit_so : (form line : List ℕ) → fits form line ≡ true → fitting form line ≡ Some tt
 unfolding fitting
-fit_so form line e = rw e refl
 
 -- one of these forms is that of the line
 pub among : (groups : List (List (List ℕ))) (line : List ℕ) (i j : ℕ) → i < length groups → j < length (get_or groups i [])

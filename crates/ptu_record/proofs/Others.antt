@@ -22,23 +22,6 @@ pub record_of-other : (m : ℕ) (L M : Record) (e : Entry) → concerns m e ≡ 
 record_of-other m L M e not_m =
     filter-append (concerns m) L (e ∷ M) ∙ ap (λ b. record_of m L ++ cond b (e ∷ record_of m M) (record_of m M)) not_m ∙ sym (filter-append (concerns m) L M)
 
--- one master at most, or all
-pub concerns_one : (m n : ℕ) (e : Entry) → concerns m e ≡ true → concerns n e ≡ true → is_stop e ≡ false → m ≡ n
-concerns_one m n (Announce at master class) f g unstopped = sym (eqb-true master m f) ∙ eqb-true master n g
-concerns_one m n (Sync at master number) f g unstopped = sym (eqb-true master m f) ∙ eqb-true master n g
-concerns_one m n (Resp at master number) f g unstopped = sym (eqb-true master m f) ∙ eqb-true master n g
-concerns_one m n (Told at master now) f g unstopped = sym (eqb-true master m f) ∙ eqb-true master n g
-concerns_one m n (Judge at master rule) f g unstopped = sym (eqb-true master m f) ∙ eqb-true master n g
-concerns_one m n (Judged at master now) f g unstopped = sym (eqb-true master m f) ∙ eqb-true master n g
-concerns_one m n (Asked at master kind) f g unstopped = sym (eqb-true master m f) ∙ eqb-true master n g
-concerns_one m n (Granted at master kind seconds) f g unstopped = sym (eqb-true master m f) ∙ eqb-true master n g
-concerns_one m n (Denied at master kind) f g unstopped = sym (eqb-true master m f) ∙ eqb-true master n g
-concerns_one m n (Cancelled at master kind) f g unstopped = sym (eqb-true master m f) ∙ eqb-true master n g
-concerns_one m n (Probed at master) f g unstopped = sym (eqb-true master m f) ∙ eqb-true master n g
-concerns_one m n (Signalled at master) f g unstopped = sym (eqb-true master m f) ∙ eqb-true master n g
-concerns_one m n (Stopped at) f g unstopped = absurd (false≢true (sym unstopped))
-concerns_one m n (Event at) f g unstopped = absurd (false≢true f)
-
 map-append : (xs ys : Record) → map moment_of (xs ++ ys) ≡ map moment_of xs ++ map moment_of ys
 map-append [] ys = refl
 map-append (x ∷ xs) ys = ap (λ w. moment_of x ∷ w) (map-append xs ys)

@@ -134,9 +134,6 @@ positions_are (n ∷ ns) some = fold_is ns (first_position n ∷ []) (omega arit
 pub positions-push : (numbers : List ℕ) (number : ℕ) → positions (numbers ++ number ∷ []) ≡ next_positions (positions numbers) number
 positions-push numbers number = fold-append next_positions [] numbers (number ∷ [])
 
-ahead_below : (top number : ℕ) → distance top number < 65536
-ahead_below top number = omega arith
-
 -- the three ways of a next number
 placed_ahead : (p : ℕ) (ps : List ℕ) (number : ℕ) → distance (maximum (p ∷ ps)) number ≤ 32767
     → next_positions (p ∷ ps) number ≡ p ∷ ps ++ (maximum (p ∷ ps) + distance (maximum (p ∷ ps)) number) ∷ []
@@ -207,10 +204,6 @@ pub clear_behind : (ns : List ℕ) (number i : ℕ) → ns ≢ [] → 65521 ≤ 
     → is_clear (positions (ns ++ number ∷ [])) i ≡ cond (eqb i (65536 - distance (maximum (positions ns)) number)) false (is_clear (positions ns) i)
 clear_behind ns number i some le = ap (λ w. is_clear w i) (positions-push ns number) ∙ clear_behind_of (positions ns) number i (positions_are ns some) le
 
-pub clear_afresh : (ns : List ℕ) (number i : ℕ) → ns ≢ [] → 32767 < distance (maximum (positions ns)) number → distance (maximum (positions ns)) number < 65521
-    → is_clear (positions (ns ++ number ∷ [])) i ≡ false
-clear_afresh ns number i some above below = ap (λ w. is_clear w i) (positions-push ns number) ∙ clear_afresh_of (positions ns) number i (positions_are ns some) above below
-
 -- the same at a distance with a name
 pub clear_ahead_by : (ns : List ℕ) (number i d : ℕ) → ns ≢ [] → distance (maximum (positions ns)) number ≡ d → d ≤ 32767
     → is_clear (positions (ns ++ number ∷ [])) i ≡ cond (eqb i 0) false (cond (ltb i d) true (is_clear (positions ns) (i - d)))
@@ -263,7 +256,3 @@ pub top_behind : (ns : List ℕ) (number : ℕ) → ns ≢ [] → 65521 ≤ dist
     → maximum (positions (ns ++ number ∷ [])) ≡ maximum (positions ns)
 top_behind ns number some le = ap maximum (positions-push ns number) ∙ top_behind_of (positions ns) number (positions_are ns some) le
 
-pub top_afresh : (ns : List ℕ) (number : ℕ) → ns ≢ [] → number < 65536 → 32767 < distance (maximum (positions ns)) number → distance (maximum (positions ns)) number < 65521
-    → maximum (positions (ns ++ number ∷ [])) % 65536 ≡ number
-top_afresh ns number some lt above below =
-    ap (λ w. maximum w % 65536) (positions-push ns number) ∙ ap (λ n. n % 65536) (top_afresh_of (positions ns) number (positions_are ns some) above below) ∙ first_number number lt

@@ -30,12 +30,6 @@ newest_of-flat (Some g) old = refl
 pub grant-push : (k : Kind) (L : Record) (e : Entry) → grant k (L ++ e ∷ []) ≡ unwrap_or (grant_change k e) (grant k L)
 grant-push k L e = ap (λ o. unwrap_or o None) (last-filter_map (grant_change k) L e) ∙ newest_of-flat (grant_change k e) (last (grant_changes k L))
 
-pub grant_given : (k : Kind) (L : Record) (at m seconds : ℕ) → grant k (L ++ Granted at m k seconds ∷ []) ≡ Some (at, seconds)
-grant_given k L at m seconds = grant-push k L (Granted at m k seconds) ∙ ap (λ b. unwrap_or (cond b (Some (Some (at, seconds))) None) (grant k L)) (is_kind-self k)
-
-pub grant_cancelled : (k : Kind) (L : Record) (at m : ℕ) → grant k (L ++ Cancelled at m k ∷ []) ≡ None
-grant_cancelled k L at m = grant-push k L (Cancelled at m k) ∙ ap (λ b. unwrap_or (cond b (Some None) None) (grant k L)) (is_kind-self k)
-
 pub grant_stopped : (k : Kind) (L : Record) (at : ℕ) → grant k (L ++ Stopped at ∷ []) ≡ None
 grant_stopped k L at = grant-push k L (Stopped at)
 
@@ -175,9 +169,6 @@ due_of t (x ∷ xs) = both x (maximum xs) t ∙ ap (λ b. leb x t && b) (due_of 
   where
     both : (x g t : ℕ) → leb (max x g) t ≡ (leb x t && leb g t)
     both x g t = grind (arith, nat_tests)
-
-pub due_past_all : (k : Kind) (L : Record) (t : ℕ) → is_due k L t ≡ list_all (λ g. leb g t) (gates k L t)
-due_past_all k L t = due_of t (gates k L t)
 
 -- what is there is not above the greatest
 over_first : (a : ℕ) (o : Option ℕ) (os : List (Option ℕ)) → o ≡ Some a → a ≤ maximum (flat_map option_to_list (o ∷ os))

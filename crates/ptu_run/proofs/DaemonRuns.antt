@@ -119,17 +119,6 @@ unread_ended reads reads' writes opens risen = record {
   };
 }
 
-pub wanting_ended : (reads reads' writes opens : ℕ) → reads' ≡ reads → HasEnded 71 reads reads' writes writes opens opens
-wanting_ended reads reads' writes opens still = record {
-  statuses = (7, lit< tt, refl);
-  other = λ e. omega (arith, e);
-  faults = record {
-    source = answered_still 66 71 reads reads' (λ e. omega (arith, e)) still;
-    sink = answered_still 67 71 writes writes (λ e. omega (arith, e)) refl;
-    host = answered_still 69 71 opens opens (λ e. omega (arith, e)) refl;
-  };
-}
-
 -- what holds where there is an error
 pub if_on_err : {A E X : Type 0} (r : Result A E) (fault : E) → r ≡ Err fault → OnErr r X → X
 if_on_err (Ok x) fault e h = absurd (let never : Ok x ≡ Err fault = e in cc)

@@ -127,10 +127,3 @@ state_of-is w timeouts L t h =
     ∙ ap (λ b. record { loss_announce = loss_announce timeouts L t; loss_sync = loss_sync timeouts L t; loss_delay = loss_delay timeouts L t; unusable = is_unusable L; waiting = b; quality = quality L })
     (sym (is_waiting_by_latest timeouts L t))
 
--- nothing is kept of the empty record
-pub fresh_watch : (timeouts : Timeouts) → kept_of timeouts [] ≡ record { timeouts = timeouts; announced = None; synced = None; responded = None; quality = None; unusable = false; ended = None }
-fresh_watch timeouts = ap (λ o. record { timeouts = timeouts; announced = None; synced = None; responded = None; quality = None; unusable = false; ended = o }) (none timeouts.delay)
-  where
-    none : (delay : Option ℕ) → latest_of ([] ++ [] ++ unwrap_or (option_map (λ timeout. []) delay) [] ++ []) ≡ None
-    none None = refl
-    none (Some timeout) = refl

@@ -58,9 +58,6 @@ counted_delay_req old new own at m same next moment h = record {
   probed = moment ∙ sym (last-filter_map probe_moment own (Probed at m));
 }
 
-pub count_none : (counters : Counters) (own : Record) → CountFor counters own → CountFor counters (own ++ [])
-count_none counters own h = subst (CountFor counters) (sym (append-nil own)) h
-
 -- ---- the entries of a plan
 
 -- of a Signaling for these kinds

@@ -139,9 +139,6 @@ one_more_ended n x old mid new ss more all stated asks rest = record {
         (ap (λ w. record_of n (L ++ flat_map (sending_entries x) w)) (all.stated told L h) ∙ own_same x n (cancels_by told L x) L (λ m differ. cancels_one told L x n m differ))
         (all_cancels-before told x n n (omega arith))
 
-pub all_ended : (m n x : ℕ) (old new : Kept) (ss : List Sending) → m ≡ n → AllEnded m x old new ss → AllEnded n x old new ss
-all_ended m n x old new ss same all = subst (λ k. AllEnded k x old new ss) same all
-
 -- ---- datagrams
 
 -- a plan goes to its master

@@ -203,11 +203,3 @@ round_later before after later old mid new xs m took same keeps = record {
   once = took.once;
 }
 
-pub round_behind : (before now after : Option (List Arrival)) (old mid new : ℕ) (xs : List Arrival) (m : ℕ) → now ≡ before → HasNotFallen old mid → RoundTook now after mid new xs m
-    → RoundTook before after old new xs m
-round_behind before now after old mid new xs m same keeps took = record {
-  came = subst (λ w. Gave w after xs) same took.came;
-  few = took.few;
-  whole = λ still. took.whole (still_after old mid new keeps still);
-  once = took.once;
-}

@@ -69,14 +69,6 @@ pub record Enough (masters : List MasterSetting) (flags gaps : ℕ) : Type 0 whe
   pub flags_are : count_by (λ m. not m.gap) masters ≤ flags
   pub gaps_are : count_by (λ m. m.gap) masters ≤ gaps
 
-pub enough_is : (masters : List MasterSetting) (flags gaps : ℕ) → are_enough masters flags gaps ≡ true → Enough masters flags gaps
-enough_is masters flags gaps is =
-    let parts = and_both (nat_le (count_by (λ m. not m.gap) masters) flags) (nat_le (count_by (λ m. m.gap) masters) gaps) is in
-    record {
-      flags_are = le_is (count_by (λ m. not m.gap) masters) flags parts.0;
-      gaps_are = le_is (count_by (λ m. m.gap) masters) gaps parts.1;
-    }
-
 -- what a test counts
 abbrev one_if : Bool → ℕ
 one_if b = cond b 1 0

@@ -26,14 +26,6 @@ use Rattle.ptu_trail.proofs.Sound.{all_false}
 
 -- ---- tests in order
 
-pub first_more : (tests more : List (Bool × NoCause)) (cause : NoCause) → first_no_cause tests ≡ Some cause → first_no_cause (tests ++ more) ≡ Some cause
-first_more [] more cause e = absurd cc
-first_more (test ∷ tests) more cause e = at test.0 e (first_more tests more cause)
-  where
-    at : (b : Bool) → cond b (Some test.1) (first_no_cause tests) ≡ Some cause → (first_no_cause tests ≡ Some cause → first_no_cause (tests ++ more) ≡ Some cause) → cond b (Some test.1) (first_no_cause (tests ++ more)) ≡ Some cause
-    at true e ih = e
-    at false e ih = ih e
-
 module _ (history : List Record) (n : ℕ) (c : Client) where
   pub placed_more : IsPlaced history n c → (more : List (Bool × NoCause)) → first_no_cause (decision_tests history n c ++ more) ≡ first_no_cause more
   placed_more s more = rw (s.not_shared, s.moment, s.not_back) refl
