@@ -1,5 +1,5 @@
 -- Candidates for shedding, and the greatest of them.
-use Rattle.std.proofs.Common.{◌≡◌, ◌∙◌, ◌⊎◌, inl, inr, ℕ, zero, suc, ◌+◌, ◌<◌, ◌++◌, List, [], ◌∷◌, length, map, take, false, append_assoc, append-nil, refl, sym, ap, subst, arith, Option, Some, None}
+use Rattle.std.proofs.Common.{◌≡◌, ◌∙◌, ◌⊎◌, inl, inr, ℕ, zero, suc, ◌+◌, ◌<◌, ◌++◌, List, [], ◌∷◌, length, map, take, false, append_assoc, refl, sym, ap, subst, arith, Option, Some, None}
 use Rattle.std.specs.{Prelude.{slice_get, IfNone, IfSome}, BinaryHeap.{IsHeap, IsUpperBound}}
 use Rattle.std.specs.{List.{All, Contains}, List.Sorted.{IsPermutation}}
 use Rattle.std.specs.{Ordering.{is_lt, nat_cmp, ordering_then}, declared.cmp.Ordering.{Ordering}}

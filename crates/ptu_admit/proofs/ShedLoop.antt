@@ -1,14 +1,14 @@
 -- Grants that are shed one by one.
 use Rattle.std.proofs.Common.{◌≡◌, ◌∙◌, ℕ, zero, suc, ◌+◌, ◌<◌, ◌≤◌, ◌++◌, List, [], ◌∷◌, length, ltb, map, append_assoc, append-nil, refl, sym, ap, subst, arith, true, false}
-use Rattle.std.specs.{List.{Contains, filter}, List.Sorted.{IsPermutation}}
+use Rattle.std.specs.{List.{Contains}, List.Sorted.{IsPermutation}}
 use Rattle.std.proofs.lemmas.{Bool.{ltb-true, true≢false}, List.{map-append}}
 use Rattle.std.proofs.lemmas.List.Sorted.{length_permutation}
 use Rattle.ptu_units.specs.Client.{same_lease}
 use Rattle.ptu_history.specs.Live.{Grant, live_grants}
-use Rattle.ptu_history.specs.{History.{Record, Capacity, Shed, capacity_in_force}, Order.{in_order}}
-use Rattle.ptu_history.specs.Shedding.{shed_cmp, shed_grants, shed_order, shed_prefix, shed_record}
+use Rattle.ptu_history.specs.{History.{Record, Capacity, Shed, capacity_in_force}}
+use Rattle.ptu_history.specs.Shedding.{shed_grants, shed_order, shed_prefix, shed_record}
 use Rattle.ptu_history.proofs.AfterSteps.{capacity_in_force-sheds}
-use Rattle.ptu_history.proofs.{Capacities.{capacity_in_force-append}, Currents.{standing-undecided}}
+use Rattle.ptu_history.proofs.{Capacities.{capacity_in_force-append}}
 use Rattle.ptu_units.proofs.Keys.{same_lease-refl}
 use Rattle.ptu_history.proofs.Unique.{Contains-from_filter}
 use Rattle.ptu_shard.specs.{declared.lease.Row.{Row}, Row.{share_of}, Table.{Kept, StandsAt}}

@@ -1,7 +1,6 @@
 -- An auditor whose last group is judged.
 use Rattle.std.proofs.Common.{◌≡◌, ◌∙◌, ℕ, ◌++◌, true, false, List, [], ◌∷◌, Option, Some, None, refl, sym, ap, subst}
 use Rattle.std.specs.{Prelude.{IfNone, OnOk, Result, Ok, Err}, Option.{unwrap_or}}
-use Rattle.std.proofs.lemmas.List.{append-nil}
 use Rattle.ptu_audit.specs.declared.{auditor.Auditor.{Auditor}, deed.Act.{Act}}
 use Rattle.ptu_audit.specs.declared.{deed.Finding.{Finding}, ledger.Ledger.{Ledger}}
 use Rattle.ptu_audit.specs.declared.line.Line.{Line}

@@ -1,14 +1,11 @@
 -- A form by its places: the line has it where each of its words is in its place, and no further word is there.
-use Rattle.std.proofs.Common.{◌≡◌, ◌∙◌, ℕ, ◌+◌, Bool, true, false, not, ◌&&◌, List, [], ◌∷◌, drop, codes, Option, Some, None, ℤ, pos, refl, sym, ap}
-use Rattle.std.specs.{Prelude.{slice_get, option_and_then, if◌then◌else◌, OnSome, ⊤}, Option.{is_some}, Str.{bytes_eq}}
+use Rattle.std.proofs.Common.{◌≡◌, ◌∙◌, ℕ, ◌+◌, Bool, true, false, not, ◌&&◌, List, [], ◌∷◌, drop, codes, Option, Some, None, refl, ap}
+use Rattle.std.specs.{Prelude.{slice_get, option_and_then, if◌then◌else◌, ⊤}, Option.{is_some}, Str.{bytes_eq}}
 use Rattle.std.proofs.Math.Bool.{and-false}
-use Rattle.ptu_lines.specs.Words.{int_within, ip_of, word_of, words_of}
-use Rattle.ptu_audit_lines.specs.Words.{any_number, channel_of, field, is_channel, is_numbered, is_text, kind_named, log_of_kind, log_outside, no_word, octet_log}
+use Rattle.ptu_lines.specs.Words.{ip_of, word_of, words_of}
+use Rattle.ptu_audit_lines.specs.Words.{any_number, channel_of, field, is_channel, is_numbered, is_text, kind_named, log_outside, no_word, octet_log}
 use Rattle.ptu_audit_lines.specs.Forms.{fit, fits, fits_one, fitting, is_in_place}
 use Rattle.ptu_audit_lines.specs.Entry.{answer_forms, body_forms, cancel_forms, cancelled_in, capacity_in, end_in, grant_forms, granted_in, header_forms, heard_forms, ignored_forms, node_forms, nothing_code_in, nothing_in, outside_duration_in, outside_log_in, outside_type_in, send_in, shed_in, short_in}
-use Rattle.ptu_audit_lines.proofs.Logs.{log_of_kind_wide}
-use Rattle.ptu_units.specs.declared.kind.Kind.{Kind}
-use Rattle.ptu_units.specs.Log.{least_log}
 use Rattle.ptu_audit_lines.proofs.Fitting.{cut, cut_at}
 
 -- the word is there, and in its place

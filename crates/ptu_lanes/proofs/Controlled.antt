@@ -1,6 +1,6 @@
 -- What lanes come to that served a grandmaster, from what each did.
-use Rattle.std.proofs.Common.{◌≡◌, ◌∙◌, ◌⊎◌, inl, inr, ℕ, suc, zero, ◌+◌, ◌≤◌, Bool, true, false, ◌++◌, List, [], ◌∷◌, length, length-append, refl, sym, ap, subst, arith, Option, Some, None, Result, Ok, Err}
-use Rattle.std.specs.{Prelude.{IfOk, IfSome, is_some, option_map}, List.{AllByRecursion, items_where_true}}
+use Rattle.std.proofs.Common.{◌≡◌, ◌∙◌, ◌⊎◌, inl, inr, ℕ, suc, zero, ◌+◌, ◌≤◌, Bool, true, false, ◌++◌, List, [], ◌∷◌, length, length-append, refl, sym, ap, subst, arith, Option, Some, None}
+use Rattle.std.specs.{Prelude.{IfSome, is_some, option_map}, List.{AllByRecursion, items_where_true}}
 use Rattle.ptu_outside.specs.declared.{arrival.Arrival.{Arrival}, opened.Opened.{Opened}}
 use Rattle.ptu_outside.specs.declared.{clock.Clock.{Ghosts as Clocks}, port.Port.{Ghosts as Ports}}
 use Rattle.ptu_outside.specs.{Departure.{Departure}, Telling.{IfTold, TellsOn}}

@@ -16,19 +16,17 @@ use Rattle.ptu_messages.specs.declared.header.Header.{Header}
 use Rattle.ptu_messages.specs.declared.tlv.Tlv.{Tlv}
 use Rattle.ptu_profile.specs.declared.grandmaster.GmConfig.{GmConfig}
 use Rattle.ptu_shared.specs.Seats.{SeatCounts}
-use Rattle.ptu_shared.proofs.Failing.{failed-append, failed_none}
 use Rattle.ptu_gm_messages.specs.declared.heard.Heard.{Heard}
 use Rattle.ptu_gm_messages.specs.declared.heard.Heard.TheVariants as heard
 use Rattle.ptu_gm_messages.specs.declared.{reason.GmReason.{GmReason}, item.Item.{Item}}
 use Rattle.ptu_gm_messages.specs.{Deciding.{client_of}, Items.{heard_in, items_in}}
 use Rattle.ptu_grandmaster.specs.{declared.outcome.Outcome.{Outcome}, Outcomes.{answers_seen, item_seen}}
-use Rattle.ptu_outside.specs.Handed.{WasHanded}
 use Rattle.ptu_outside.specs.Rounds.{most}
 use Rattle.ptu_lanes.specs.Answers.{FitEach, HasAnswered, WasDecided, asks_among, grants_among}
 use Rattle.ptu_lanes.specs.Rounds.{AreDecided, BrokeOff, Exchange, Exchanged, HasReplied, HasServed, IsAnswered, IsRound, IsUnanswered, answers_of, asks_in, datagrams, found_items, items_of, replies, reply_if_any, reply_in, reply_with}
-use Rattle.ptu_lanes.proofs.{Handing.{handed-append, handed_none}, Items.{answered_none, asks-le, heard_items, items_heard}}
+use Rattle.ptu_lanes.proofs.{Items.{answered_none, asks-le, heard_items, items_heard}}
 use Rattle.ptu_lanes.specs.Waiting.{PassedBy}
-use Rattle.ptu_lanes.proofs.Moments.{passed-append, passed_as, passed_none, passed_one}
+use Rattle.ptu_lanes.proofs.Moments.{passed-append, passed_as, passed_one}
 use Rattle.ptu_lanes.proofs.Taking.{first_given, front_is, given_more, kept_is}
 use Rattle.ptu_lanes.specs.Sending.{GoesOn, WasSent}
 

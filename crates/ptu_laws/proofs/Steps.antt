@@ -1,7 +1,7 @@
 -- Every record of a step has the step's moment, which is not before the book's or the table's.
 use Rattle.std.proofs.Common.{◌≡◌, ℕ, ◌≤◌, ◌++◌, max, List, [], ◌∷◌, map, refl, arith, append_assoc, subst, sym}
 use Rattle.std.proofs.lemmas.List.{append-nil}
-use Rattle.ptu_units.specs.{declared.client.Client.{Client}, Client.{table_of}}
+use Rattle.ptu_units.specs.{declared.client.Client.{Client}}
 use Rattle.ptu_history.specs.History.{Record, Granted, Short, Ended, Capacity, Shed, Looked, Sent, moment_of}
 use Rattle.ptu_history.specs.Moments.{book_moment, book_part, table_moment, table_part}
 use Rattle.ptu_history.specs.Live.{Grant}
@@ -9,9 +9,9 @@ use Rattle.ptu_history.specs.Verdict.{Config, Verdict, verdict, GrantedFor, Shor
 use Rattle.ptu_history.specs.Events.{Event, Request, Cancel, Turn, DelayReq, Resize, Answer, Answered, NoGrant, TooSoon}
 use Rattle.ptu_history.specs.{Turns.{due_grants, sent_record}, Shedding.{shed_grants, shed_record}}
 use Rattle.ptu_history.specs.Step.{answer_records, delay_answer, step, verdict_records}
-use Rattle.ptu_history.specs.Core.{core_moment, core_step, core_history}
+use Rattle.ptu_history.specs.Core.{core_step, core_history}
 use Rattle.ptu_history.proofs.{Lists.{by_push}, Histories.{history-event, history-none}}
-use Rattle.ptu_history.proofs.Moments.{book_moment-push, book_step_moment-bounds, table_moment-push, table_step_moment-bounds}
+use Rattle.ptu_history.proofs.Moments.{book_moment-push, table_moment-push}
 use Rattle.ptu_history.proofs.Moments.{table_part-le}
 
 -- each of the records has this moment

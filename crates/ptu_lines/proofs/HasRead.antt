@@ -1,9 +1,8 @@
 -- What a buffer keeps while only more is read into it.
-use Rattle.std.proofs.Common.{◌≡◌, ℕ, List, [], ◌++◌, Option, refl, ap, sym, ◌∙◌, append_assoc}
+use Rattle.std.proofs.Common.{◌≡◌, ℕ, List, ◌++◌, Option, ap, ◌∙◌, append_assoc}
 use Rattle.std.specs.Prelude.{IsTrue}
-use Rattle.std.proofs.lemmas.List.{append-nil}
 use Rattle.std.specs.Io.KnownBytes.{prepend_known}
-use Rattle.ptu_outside.proofs.Told.{prepend_known-nil, prepend_known-append}
+use Rattle.ptu_outside.proofs.Told.{prepend_known-append}
 use Rattle.ptu_lines.specs.Reading.{Held, AgreesOnEnd, IsReadToEnd}
 
 pub record HasRead {S : Type 0} (left : S → Option (List ℕ)) (ends : S → Option ℕ) (faults : S → ℕ) (old new : Held) (from to : S) : Type 0 where

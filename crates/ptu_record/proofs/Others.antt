@@ -1,13 +1,13 @@
 -- What concerns one master, and the moment of an event, with one entry more.
 use Rattle.std.proofs.Common.{List, eqb, ◌≢◌, ◌≡◌, ℕ, ◌≤◌, max, Bool, true, false, cond, [], ◌∷◌, ◌++◌, map, refl, ap, sym, subst, ◌∙◌, arith}
 use Rattle.std.specs.List.{AllByRecursion, flat_map}
-use Rattle.std.proofs.lemmas.{Grind.{flat_map-append}, Bool.{ne_eqb, false≢true, eqb-true}}
+use Rattle.std.proofs.lemmas.{Grind.{flat_map-append}, Bool.{ne_eqb}}
 use Rattle.std.proofs.lemmas.{List.{append-nil}, List.Elements.{filter-append}}
 use Rattle.ptu_record.specs.Lists.{maximum}
-use Rattle.ptu_record.specs.Record.{Entry, Record, Announce, Sync, Resp, Told, Judge, Judged, Asked, Granted, Denied, Cancelled, Probed, Signalled, Stopped, Event, moment_of, event_moment, concerns, record_of}
+use Rattle.ptu_record.specs.Record.{Entry, Record, Asked, Signalled, moment_of, event_moment, concerns, record_of}
 use Rattle.ptu_units.specs.declared.kind.Kind.{Kind}
 use Rattle.ptu_record.specs.{declared.wants.Wants.{Wants}, Asks.{due_kinds}, Grants.{live_kinds}}
-use Rattle.ptu_record.specs.Tick.{Requests, Cancels, DelayReq, sending_entries, one_signaling, is_stop, is_probe_due, signaling_number, delay_req_number, requests_to, cancels_to}
+use Rattle.ptu_record.specs.Tick.{Requests, Cancels, DelayReq, sending_entries, one_signaling, is_probe_due, signaling_number, delay_req_number, requests_to, cancels_to}
 use Rattle.ptu_record.proofs.ListLaws.{maximum-append}
 
 pub record_of-push : (m : ℕ) (L : Record) (e : Entry) → record_of m (L ++ e ∷ []) ≡ cond (concerns m e) (record_of m L ++ e ∷ []) (record_of m L)

@@ -11,7 +11,7 @@ use Rattle.ptu_record.specs.Lists.{last, maximum, since_last, newest_of}
 use Rattle.ptu_record.specs.Record.{record_of, Entry, Record, Asked, Granted, Denied, Cancelled, Stopped}
 use Rattle.ptu_record.specs.Wants.{is_kind}
 use Rattle.ptu_record.specs.Grants.{grant_change, grant_changes, grant, is_live, is_live_at, fresh_start, run_start}
-use Rattle.ptu_record.specs.Asks.{ask_moment, is_answer, refusal_moment, open_asks, refusals, pause, ask_gate, refusal_gate, renewal_gate, gates, gate, is_due}
+use Rattle.ptu_record.specs.Asks.{ask_moment, is_answer, refusal_moment, open_asks, refusals, pause, ask_gate, refusal_gate, renewal_gate, gates, gate}
 use Rattle.ptu_record.specs.Tick.{is_signalled, is_probed, signaling_number, delay_req_number, is_stop, tick_sendings}
 use Rattle.ptu_record.proofs.Others.{record_of-push}
 use Rattle.ptu_record.proofs.ListLaws.{last-push, last-filter_map, filter_map-push, since_last-push}

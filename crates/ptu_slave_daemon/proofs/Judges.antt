@@ -14,7 +14,7 @@ use Rattle.ptu_config.specs.declared.settings.SlaveSettings.{SlaveSettings}
 use Rattle.ptu_config.specs.Masters.{are_distinct, are_masters}
 use Rattle.ptu_profile.specs.{declared.slave.Master.{Master}, Slave.{AreMasters}}
 use Rattle.ptu_slave.specs.{Kept.{Kept}, Standing.{StandsFor}}
-use Rattle.ptu_slave_daemon.specs.Opening.{are_enough, slave_config_of, watched_master_of, node_of, judge_rule_of}
+use Rattle.ptu_slave_daemon.specs.Opening.{slave_config_of, watched_master_of, node_of, judge_rule_of}
 use Rattle.ptu_slave_daemon.specs.Running.{IsAt}
 
 -- ---- masters
