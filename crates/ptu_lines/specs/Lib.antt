@@ -6,3 +6,6 @@ pub mod Cut
 pub mod Draft
 pub mod Line
 pub mod Cause
+pub mod Texts
+pub mod Faults
+pub mod Samples

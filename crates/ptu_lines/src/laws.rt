@@ -1,9 +1,12 @@
-//! What the definitions of lines and words mean, for every script and every word.
+//! What the definitions of lines, words and texts mean, for every script and every word.
 ghost use Rattle.std.specs.Prelude.{◌≡◌, ◌↔◌, ◌<◌, ◌≤◌, ◌^◌, ℕ, ℤ, negsuc, Option, Some, None, List, [], ◌∷◌, ◌++◌, length, count_by, ◌+◌, ◌==◌, unsigned_abs, decimal, codes, option_map};
 ghost use Rattle.std.specs.{Fmt.{signed_decimal}, List.{join_with_byte, flat_map}};
+ghost use Rattle.hex.specs.Hex.{IsBytes, encode_lower};
 ghost use Rattle.ptu_lines.specs.Script.{HasNoEnd, pieces, script_lines, Whole, Refused};
 ghost use Rattle.ptu_lines.specs.Reading.{Reader, IsFresh, lines_left};
 ghost use Rattle.ptu_lines.specs.Words.{words_of, number_of, log_of, ip_of, clock_of, octets_of};
+ghost use Rattle.ptu_lines.specs.Samples.{NamesAreWritten, FaultsAreWritten};
+ghost use Rattle.ptu_lines.specs.Texts.{address_text, clock_text};
 
 use crate::cause::LineCause;
 
@@ -61,4 +64,20 @@ pub fn forms_of_words()
     ensures octets { octets_of (codes "00fF") ≡ Some (0 ∷ 255 ∷ []) }
     ensures no_octets { octets_of (codes "-") ≡ Some [] }
     ensures odd_octets { octets_of (codes "00f") ≡ None }
+{}
+
+/// The word that an address, a clockIdentity or the octets of a datagram are written as has the
+/// form of IP, CLOCK or HEX, and is read as just these. (NUM and LOG are what numbers are printed
+/// as, by `numbers_of_words`.)
+pub fn words_are_read_again()
+    ensures address { (ip : ℕ) → ip < 2 ^ 32 → ip_of (address_text ip) ≡ Some ip }
+    ensures clock { (clock : ℕ) → clock < 2 ^ 64 → clock_of (clock_text clock) ≡ Some clock }
+    ensures octets { (octets : List ℕ) → IsBytes octets → 1 ≤ length octets →
+        length octets ≤ 2048 → octets_of (encode_lower octets) ≡ Some octets }
+{}
+
+/// The texts of values that were made out by hand.
+pub fn sample_texts()
+    ensures names { NamesAreWritten }
+    ensures faults { FaultsAreWritten }
 {}

@@ -1,9 +1,10 @@
 //! What is wrong with a datagram, in the words of a line.
 
 ghost use Rattle.std.specs.Prelude.{◌≡◌, ◌≤◌, ◌+◌, ◌++◌};
-ghost use Rattle.ptu_texts.specs.Faults.{fault_text, header_fault_text, tlv_fault_text};
+ghost use Rattle.ptu_lines.specs.Faults.{fault_text, header_fault_text, tlv_fault_text};
 
-use ptu_lines::{LinePart, LineText};
+use crate::line::LineText;
+use crate::part::LinePart;
 use ptu_messages::{HeaderFault, MessageFault, TlvFault};
 
 /// Why octets spell no message: one word for the fault, and its numbers. `MessageFault` itself

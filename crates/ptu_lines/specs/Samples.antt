@@ -4,8 +4,7 @@ use Rattle.ptu_units.specs.declared.kind.Kind.TheVariants.{Announce, Sync, Delay
 use Rattle.ptu_messages.specs.declared.header_fault.HeaderFault.TheVariants as headers
 use Rattle.ptu_messages.specs.declared.tlvs_fault.TlvFault.TheVariants as tlvs
 use Rattle.ptu_messages.specs.declared.fault.MessageFault.TheVariants as messages
-use Rattle.ptu_texts.specs.Texts.{address_text, clock_text, identity_text, kind_text}
-use Rattle.ptu_texts.specs.Faults.{fault_text}
+use Rattle.ptu_lines.specs.{Texts.{address_text, clock_text, identity_text, kind_text}, Faults.{fault_text}}
 
 -- the highest octet comes first, and no digit of a clockIdentity is left out
 abbrev pub NamesAreWritten : Type 0
