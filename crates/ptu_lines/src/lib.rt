@@ -7,7 +7,6 @@ mod draft;
 mod fault;
 mod fault_texts;
 mod forms;
-mod hexadecimal;
 pub mod laws;
 mod lent_octets;
 mod line;

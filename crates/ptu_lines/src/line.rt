@@ -6,7 +6,7 @@ ghost use Rattle.std.specs.Fmt.{decimal, signed_decimal};
 ghost use Rattle.hex.specs.Hex.{encode_lower};
 ghost use Rattle.ptu_lines.specs.Line.{Line};
 
-use crate::hexadecimal::write_hexadecimal;
+use crate::digits::write_hexadecimal;
 use itoa::write_digits;
 use std::marker::Model;
 
