@@ -3,8 +3,7 @@
 ghost use Rattle.std.specs.Prelude.{◌≡◌, ◌≤◌, ◌+◌, ◌++◌};
 ghost use Rattle.ptu_lines.specs.Faults.{fault_text, header_fault_text, tlv_fault_text};
 
-use crate::line::LineText;
-use crate::part::LinePart;
+use crate::line::{LinePart, LineText};
 use ptu_messages::{HeaderFault, MessageFault, TlvFault};
 
 /// Why octets spell no message: one word for the fault, and its numbers. `MessageFault` itself

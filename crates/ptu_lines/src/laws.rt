@@ -5,8 +5,12 @@ ghost use Rattle.hex.specs.Hex.{IsBytes, encode_lower};
 ghost use Rattle.ptu_lines.specs.Script.{HasNoEnd, pieces, script_lines, Whole, Refused};
 ghost use Rattle.ptu_lines.specs.Reading.{Reader, IsFresh, lines_left};
 ghost use Rattle.ptu_lines.specs.Words.{words_of, number_of, log_of, ip_of, clock_of, octets_of};
-ghost use Rattle.ptu_lines.specs.Samples.{NamesAreWritten, FaultsAreWritten};
-ghost use Rattle.ptu_lines.specs.Texts.{address_text, clock_text};
+ghost use Rattle.ptu_lines.specs.Texts.{address_text, clock_text, identity_text, kind_text};
+ghost use Rattle.ptu_lines.specs.Faults.{fault_text};
+ghost use Rattle.ptu_units.specs.declared.kind.Kind.TheVariants as kinds;
+ghost use Rattle.ptu_messages.specs.declared.header_fault.HeaderFault.TheVariants as headers;
+ghost use Rattle.ptu_messages.specs.declared.tlvs_fault.TlvFault.TheVariants as tlvs;
+ghost use Rattle.ptu_messages.specs.declared.fault.MessageFault.TheVariants as messages;
 
 use crate::cause::LineCause;
 
@@ -76,8 +80,23 @@ pub fn words_are_read_again()
         length octets ≤ 2048 → octets_of (encode_lower octets) ≡ Some octets }
 {}
 
-/// The texts of values that were made out by hand.
+/// The texts of values that were made out by hand. The highest octet comes first, no digit of a
+/// clockIdentity is left out, and the numbers of a fault come in their order.
 pub fn sample_texts()
-    ensures names { NamesAreWritten }
-    ensures faults { FaultsAreWritten }
+    ensures names { (address_text 0x0a000111 ≡ codes "10.0.1.17")
+        × (clock_text 0x0a00000000000011 ≡ codes "0a00000000000011")
+        × (identity_text (record { clock = 0xffffffffffffffff; port = 65535 })
+            ≡ codes "ffffffffffffffff/65535")
+        × (kind_text kinds.Announce ≡ codes "announce")
+        × (kind_text kinds.Sync ≡ codes "sync")
+        × (kind_text kinds.DelayResp ≡ codes "delay_resp") }
+    ensures faults { (fault_text (messages.Header (headers.Short 33)) ≡ codes "short 33")
+        × (fault_text (messages.Header (headers.Version 1)) ≡ codes "version 1")
+        × (fault_text (messages.Header (headers.Sdo 3)) ≡ codes "sdo 3")
+        × (fault_text (messages.Header (headers.Length 55 54)) ≡ codes "length 55 54")
+        × (fault_text (messages.Body 43 44) ≡ codes "body 43 44")
+        × (fault_text (messages.TooMany 172) ≡ codes "toomany 172")
+        × (fault_text (messages.Tlv 54 (tlvs.Short 3)) ≡ codes "tlv 54 short 3")
+        × (fault_text (messages.Tlv 44 (tlvs.Overrun 6 5)) ≡ codes "tlv 44 overrun 6 5")
+        × (fault_text (messages.Tlv 44 (tlvs.Length 4 5)) ≡ codes "tlv 44 length 4 5") }
 {}

@@ -1,10 +1,10 @@
 //! A line in the making, written from its last octet to its first, so that numbers need no buffer
-//! of their own.
+//! of their own, and the trait of what is written as a part of it.
 
-ghost use Rattle.std.specs.Prelude.{◌≡◌, ◌≤◌, ◌+◌, ◌*◌, ◌++◌, [], length};
+ghost use Rattle.std.specs.Prelude.{◌≡◌, ◌≤◌, ◌+◌, ◌*◌, ◌++◌, [], List, ℕ, length};
 ghost use Rattle.std.specs.Fmt.{decimal, signed_decimal};
 ghost use Rattle.hex.specs.Hex.{encode_lower};
-ghost use Rattle.ptu_lines.specs.Line.{Line};
+ghost use Rattle.ptu_lines.specs.Draft.{Line};
 
 use crate::digits::write_hexadecimal;
 use itoa::write_digits;
@@ -24,7 +24,7 @@ pub struct LineText {
 
 impl Model for LineText {
     ghost use Rattle.std.specs.Prelude.{◌≤◌, drop};
-    ghost use Rattle.ptu_lines.specs.Line.{Line};
+    ghost use Rattle.ptu_lines.specs.Draft.{Line};
 
     ghost Value = { Line };
 
@@ -103,4 +103,19 @@ impl LineText {
     {
         &self.octets[self.at..]
     }
+}
+
+/// A part of a line: it has a text, of at most so many octets.
+pub trait LinePart {
+    /// The octets of its text.
+    ghost text: { Self → List ℕ };
+
+    /// The most octets that the text may have.
+    ghost most: { Self → ℕ };
+
+    /// Puts its text before what stands in the line.
+    fn put(self, line: &mut LineText)
+        requires { most self ≤ line.old.room }
+        ensures text { line.new.text ≡ text self ++ line.old.text }
+        ensures room { line.old.room ≤ line.new.room + most self };
 }

@@ -3,8 +3,7 @@
 ghost use Rattle.std.specs.{Prelude.{◌≡◌, ◌≤◌, ◌+◌, ◌++◌, Some}, Fmt.{signed_decimal}};
 ghost use Rattle.ptu_lines.specs.Texts.{address_text, clock_text, identity_text, kind_text};
 
-use crate::line::LineText;
-use crate::part::LinePart;
+use crate::line::{LinePart, LineText};
 use ptu_messages::PortIdentity;
 use ptu_units::{Kind, Log};
 use std::fmt;
