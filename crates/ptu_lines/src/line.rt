@@ -1,7 +1,7 @@
 //! A line in the making, written from its last octet to its first, so that numbers need no buffer
 //! of their own, and the trait of what is written as a part of it.
 
-ghost use Rattle.std.specs.Prelude.{◌≡◌, ◌≤◌, ◌+◌, ◌*◌, ◌++◌, [], List, ℕ, length};
+ghost use Rattle.std.specs.Prelude.{◌≡◌, ◌≤◌, ◌+◌, ◌*◌, ◌++◌, [], List, ℕ, codes, length};
 ghost use Rattle.std.specs.Fmt.{decimal, signed_decimal};
 ghost use Rattle.hex.specs.Hex.{encode_lower};
 ghost use Rattle.ptu_lines.specs.Draft.{Line};
@@ -84,6 +84,28 @@ impl LineText {
         if number < 0 {
             self.put_str("-");
         }
+    }
+
+    /// Puts the words, and the number in decimal digits behind them, before what stands.
+    pub fn put_one(&mut self, words: &str, number: u64)
+        requires { length words.now + 20 ≤ self.old.room }
+        ensures text { self.new.text ≡ words.now ++ (decimal number ++ self.old.text) }
+        ensures room { self.old.room ≤ self.new.room + (length words.now + 20) }
+    {
+        self.put_number(number);
+        self.put_str(words);
+    }
+
+    /// Puts the words, and two numbers with a space between them, before what stands.
+    pub fn put_two(&mut self, words: &str, first: u64, second: u64)
+        requires { length words.now + 41 ≤ self.old.room }
+        ensures text { self.new.text
+            ≡ words.now ++ (decimal first ++ (codes " " ++ (decimal second ++ self.old.text))) }
+        ensures room { self.old.room ≤ self.new.room + (length words.now + 41) }
+    {
+        self.put_number(second);
+        self.put_str(" ");
+        self.put_one(words, first);
     }
 
     /// Puts two hexadecimal digits in lower case for each octet before what stands.
