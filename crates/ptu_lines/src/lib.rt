@@ -20,7 +20,7 @@ pub use cause::LineCause;
 pub use draft::{Draft, OctetsText, Text};
 pub use fault::LinesFault;
 pub use fault_texts::FaultText;
-pub use forms::{clock, ip, log, number, octets};
+pub use forms::{clock, ip, kind_log, log, number, octets};
 pub use lent_octets::LentOctets;
 pub use line::{LinePart, LineText};
 pub use line_reader::LineReader;
