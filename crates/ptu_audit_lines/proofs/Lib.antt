@@ -1,4 +1,3 @@
-mod Logs
 mod Fitting
 mod Fields
 pub mod OnLiterals

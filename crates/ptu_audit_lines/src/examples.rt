@@ -48,8 +48,7 @@ pub fn changes_and_datagrams()
         ≡ Some (lines.At 7 (entries.Send 3 0x0A000001 0x0A000111 (0 ∷ 255 ∷ []))) }
     ensures sent_nothing { line_of (codes "7 send 3 10.0.0.1 10.0.1.17 general -")
         ≡ Some (lines.At 7 (entries.Send 3 0x0A000001 0x0A000111 [])) }
-    ensures end { line_of (codes "end 9 4")
-        ≡ Some (lines.End 9 4) }
+    ensures end { line_of (codes "end 9 4") ≡ Some (lines.End 9 4) }
 {}
 
 /// Lines that say nothing of a grandmaster's promises: what slaves do and hear.
@@ -92,42 +91,24 @@ pub fn lines_of_ignored_datagrams()
 
 /// Lines of none of the forms.
 pub fn lines_of_no_form()
-    ensures empty { line_of (codes "")
-        ≡ None }
-    ensures comment { line_of (codes "# 2 nobody")
-        ≡ None }
-    ensures bad { line_of (codes "2 bad field 5")
-        ≡ None }
-    ensures no_number { line_of (codes "nobody")
-        ≡ None }
-    ensures two_spaces { line_of (codes "2  nobody")
-        ≡ None }
-    ensures word_more { line_of (codes "2 nobody 1")
-        ≡ None }
-    ensures word_less { line_of (codes "2 granted announce 1 at 0 until")
-        ≡ None }
-    ensures log_in_range { line_of (codes "2 outside log announce -3")
-        ≡ None }
-    ensures log_outside { line_of (codes "2 granted announce -4 at 0 until 300")
-        ≡ None }
-    ensures no_octet { line_of (codes "2 outside log announce 128")
-        ≡ None }
-    ensures upper_case { line_of (codes "7 send 3 10.0.0.1 10.0.1.17 event 00FF")
-        ≡ None }
-    ensures odd { line_of (codes "7 send 3 10.0.0.1 10.0.1.17 event 00f")
-        ≡ None }
-    ensures channel { line_of (codes "7 send 3 10.0.0.1 10.0.1.17 timing 00")
-        ≡ None }
+    ensures empty { line_of (codes "") ≡ None }
+    ensures comment { line_of (codes "# 2 nobody") ≡ None }
+    ensures bad { line_of (codes "2 bad field 5") ≡ None }
+    ensures no_number { line_of (codes "nobody") ≡ None }
+    ensures two_spaces { line_of (codes "2  nobody") ≡ None }
+    ensures word_more { line_of (codes "2 nobody 1") ≡ None }
+    ensures word_less { line_of (codes "2 granted announce 1 at 0 until") ≡ None }
+    ensures log_in_range { line_of (codes "2 outside log announce -3") ≡ None }
+    ensures log_outside { line_of (codes "2 granted announce -4 at 0 until 300") ≡ None }
+    ensures no_octet { line_of (codes "2 outside log announce 128") ≡ None }
+    ensures upper_case { line_of (codes "7 send 3 10.0.0.1 10.0.1.17 event 00FF") ≡ None }
+    ensures odd { line_of (codes "7 send 3 10.0.0.1 10.0.1.17 event 00f") ≡ None }
+    ensures channel { line_of (codes "7 send 3 10.0.0.1 10.0.1.17 timing 00") ≡ None }
     ensures clock_in_upper_case { line_of (codes "4 shed announce 1 10.0.1.18 0A00000000000012/1")
         ≡ None }
-    ensures short_clock { line_of (codes "4 shed announce 1 10.0.1.18 0a000000000012/1")
-        ≡ None }
-    ensures port { line_of (codes "4 shed announce 1 10.0.1.18 0a00000000000012/65536")
-        ≡ None }
-    ensures twenty_digits { line_of (codes "2 nothing 10000000000000000000")
-        ≡ None }
-    ensures leading_zero { line_of (codes "02 nobody")
-        ≡ None }
-    ensures delay_req { line_of (codes "2 nothing delay_req at 5")
-        ≡ None }
+    ensures short_clock { line_of (codes "4 shed announce 1 10.0.1.18 0a000000000012/1") ≡ None }
+    ensures port { line_of (codes "4 shed announce 1 10.0.1.18 0a00000000000012/65536") ≡ None }
+    ensures twenty_digits { line_of (codes "2 nothing 10000000000000000000") ≡ None }
+    ensures leading_zero { line_of (codes "02 nobody") ≡ None }
+    ensures delay_req { line_of (codes "2 nothing delay_req at 5") ≡ None }
 {}

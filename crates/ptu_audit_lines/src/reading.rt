@@ -230,30 +230,15 @@ fn is_named(line: &WordList, name: &str) -> bool
     literal(line, 2, name).is_some()
 }
 
-fn has_node_form(line: &WordList) -> bool
-    ensures { result ≡ fits_one specs.node_forms line.now }
-{
-    fits("NUM selected IP IP", line)
-        || fits("NUM selected IP none", line)
-        || fits("NUM nobody", line)
-}
-
 fn is_node(line: &WordList) -> bool
     ensures { result ≡ fits_one specs.node_forms line.now }
 {
     if !is_named(line, "selected") && !is_named(line, "nobody") {
         return false;
     }
-    has_node_form(line)
-}
-
-fn has_heard_form(line: &WordList) -> bool
-    ensures { result ≡ fits_one specs.heard_forms line.now }
-{
-    fits("NUM heard sync IP seq NUM at NUM", line)
-        || fits("NUM heard announce IP class NUM at NUM", line)
-        || fits("NUM heard delay_resp IP seq NUM at NUM", line)
-        || fits("NUM heard follow_up IP at NUM", line)
+    fits("NUM selected IP IP", line)
+        || fits("NUM selected IP none", line)
+        || fits("NUM nobody", line)
 }
 
 fn is_heard(line: &WordList) -> bool
@@ -262,15 +247,10 @@ fn is_heard(line: &WordList) -> bool
     if !is_named(line, "heard") {
         return false;
     }
-    has_heard_form(line)
-}
-
-fn has_answer_form(line: &WordList) -> bool
-    ensures { result ≡ fits_one specs.answer_forms line.now }
-{
-    fits("NUM answered at NUM", line)
-        || fits("NUM silent nogrant at NUM", line)
-        || fits("NUM silent soon at NUM earliest NUM", line)
+    fits("NUM heard sync IP seq NUM at NUM", line)
+        || fits("NUM heard announce IP class NUM at NUM", line)
+        || fits("NUM heard delay_resp IP seq NUM at NUM", line)
+        || fits("NUM heard follow_up IP at NUM", line)
 }
 
 fn is_answer(line: &WordList) -> bool
@@ -279,13 +259,9 @@ fn is_answer(line: &WordList) -> bool
     if !is_named(line, "answered") && !is_named(line, "silent") {
         return false;
     }
-    has_answer_form(line)
-}
-
-fn has_grant_form(line: &WordList) -> bool
-    ensures { result ≡ fits_one specs.grant_forms line.now }
-{
-    fits("NUM grant KIND NUM", line) || fits("NUM denial KIND", line)
+    fits("NUM answered at NUM", line)
+        || fits("NUM silent nogrant at NUM", line)
+        || fits("NUM silent soon at NUM earliest NUM", line)
 }
 
 fn is_grant(line: &WordList) -> bool
@@ -294,16 +270,7 @@ fn is_grant(line: &WordList) -> bool
     if !is_named(line, "grant") && !is_named(line, "denial") {
         return false;
     }
-    has_grant_form(line)
-}
-
-fn has_cancel_form(line: &WordList) -> bool
-    ensures { result ≡ fits_one specs.cancel_forms line.now }
-{
-    fits("NUM cancel KIND", line)
-        || fits("NUM cancel NUM", line)
-        || fits("NUM ack KIND", line)
-        || fits("NUM ack NUM", line)
+    fits("NUM grant KIND NUM", line) || fits("NUM denial KIND", line)
 }
 
 fn is_cancel(line: &WordList) -> bool
@@ -312,17 +279,10 @@ fn is_cancel(line: &WordList) -> bool
     if !is_named(line, "cancel") && !is_named(line, "ack") {
         return false;
     }
-    has_cancel_form(line)
-}
-
-fn has_ignored_form(line: &WordList) -> bool
-    ensures { result ≡ fits_one specs.ignored_forms line.now }
-{
-    fits("NUM ignored type NUM", line)
-        || fits("NUM ignored other NUM", line)
-        || fits("NUM ignored stranger", line)
-        || fits("NUM ignored domain NUM", line)
-        || fits("NUM ignored target", line)
+    fits("NUM cancel KIND", line)
+        || fits("NUM cancel NUM", line)
+        || fits("NUM ack KIND", line)
+        || fits("NUM ack NUM", line)
 }
 
 fn is_ignored(line: &WordList) -> bool
@@ -331,16 +291,11 @@ fn is_ignored(line: &WordList) -> bool
     if !is_named(line, "ignored") {
         return false;
     }
-    has_ignored_form(line)
-}
-
-fn has_header_form(line: &WordList) -> bool
-    ensures { result ≡ fits_one specs.header_forms line.now }
-{
-    fits("NUM ignored fault short NUM", line)
-        || fits("NUM ignored fault version NUM", line)
-        || fits("NUM ignored fault sdo NUM", line)
-        || fits("NUM ignored fault length NUM NUM", line)
+    fits("NUM ignored type NUM", line)
+        || fits("NUM ignored other NUM", line)
+        || fits("NUM ignored stranger", line)
+        || fits("NUM ignored domain NUM", line)
+        || fits("NUM ignored target", line)
 }
 
 fn is_header(line: &WordList) -> bool
@@ -349,17 +304,10 @@ fn is_header(line: &WordList) -> bool
     if !is_named(line, "ignored") {
         return false;
     }
-    has_header_form(line)
-}
-
-fn has_body_form(line: &WordList) -> bool
-    ensures { result ≡ fits_one specs.body_forms line.now }
-{
-    fits("NUM ignored fault body NUM NUM", line)
-        || fits("NUM ignored fault toomany NUM", line)
-        || fits("NUM ignored fault tlv NUM short NUM", line)
-        || fits("NUM ignored fault tlv NUM overrun NUM NUM", line)
-        || fits("NUM ignored fault tlv NUM length NUM NUM", line)
+    fits("NUM ignored fault short NUM", line)
+        || fits("NUM ignored fault version NUM", line)
+        || fits("NUM ignored fault sdo NUM", line)
+        || fits("NUM ignored fault length NUM NUM", line)
 }
 
 fn is_body(line: &WordList) -> bool
@@ -368,7 +316,11 @@ fn is_body(line: &WordList) -> bool
     if !is_named(line, "ignored") {
         return false;
     }
-    has_body_form(line)
+    fits("NUM ignored fault body NUM NUM", line)
+        || fits("NUM ignored fault toomany NUM", line)
+        || fits("NUM ignored fault tlv NUM short NUM", line)
+        || fits("NUM ignored fault tlv NUM overrun NUM NUM", line)
+        || fits("NUM ignored fault tlv NUM length NUM NUM", line)
 }
 
 // What a slave does.

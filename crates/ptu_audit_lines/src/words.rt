@@ -1,13 +1,12 @@
 //! The words of a line, each in the form that its place asks for.
 #![tactic(auto, unfolding(crate::proofs::OnLiterals::words_on_literals))]
 
-ghost use Rattle.std.specs.Prelude.{◌≡◌, ◌==◌, ◌≤◌, ◌≤ℤ◌, pos, true, Some, None, IfSome, OnSome, MatchOption, option_and_then, option_copied, length, take};
+ghost use Rattle.std.specs.Prelude.{◌≡◌, ◌==◌, ◌≤◌, true, Some, None, IfSome, OnSome, MatchOption, option_and_then, option_copied, length, take};
 ghost use Rattle.std.specs.{Option.{is_some}, Str.{bytes_eq}};
-ghost use Rattle.ptu_units.specs.Log.{IsLogOf, least_log};
-ghost use Rattle.ptu_lines.specs.Words.{int_within, ip_of, number_within, octets_of, word_of};
+ghost use Rattle.ptu_lines.specs.Words.{ip_of, number_within, octets_of, word_of};
 ghost use Rattle.ptu_audit_lines.specs.Words as forms;
 
-use ptu_lines::{LentOctets, WordList, clock, ip, log, number, octets};
+use ptu_lines::{LentOctets, WordList, clock, ip, kind_log, log, number, octets};
 use ptu_units::sizes::LONGEST_DATAGRAM;
 use ptu_units::{Kind, Log};
 
@@ -112,20 +111,12 @@ pub fn octet_log(word: &[u8]) -> Option<i8>
     log(word, i8::MIN, i8::MAX)
 }
 
-// The logarithm, where it is in the range of the kind.
-fn of_kind(kind: Kind, value: i8) -> Option<Log>
-    ensures { result ≡ int_within (least_log kind) (pos 4) value }
-{
-    Log::of(kind, value)
-}
-
 #[inline(always)]
 fn log_of(word: &[u8], kind: Kind) -> Option<Log>
     ensures value { result ≡ forms.log_of_kind kind word.now }
     ensures octet { OnSome result (is_some (forms.octet_log word.now) ≡ true) }
 {
-    let value = octet_log(word)?;
-    of_kind(kind, value)
+    kind_log(word, kind)
 }
 
 /// The logarithm in the range of the kind that the word with this number is.

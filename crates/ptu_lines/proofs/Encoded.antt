@@ -1,5 +1,5 @@
 -- The digits of octets in a row, and of a part of them.
-use Rattle.std.proofs.Common.{◌≡◌, ◌≤◌, ℕ, zero, suc, ◌+◌, ◌-◌, ◌*◌, ◌/◌, ◌%◌, List, [], ◌∷◌, ◌++◌, length, take, drop, replicate, slice_index, refl, ap, sym, subst, ◌∙◌, take-take, arith}
+use Rattle.std.proofs.Common.{◌≡◌, ◌≤◌, ℕ, zero, suc, ◌+◌, ◌-◌, ◌*◌, ◌/◌, ◌%◌, List, [], ◌∷◌, ◌++◌, length, take, drop, replicate, slice_index, refl, ap, sym, ◌∙◌, take-take, arith}
 use Rattle.std.proofs.Math.Seq.{take-add}
 use Rattle.std.proofs.lemmas.{List.{length-drop, length-take}, Slice.{take-put_mid}}
 use borrow.Rule.Slice.PartMut.{put_mid}
@@ -52,12 +52,9 @@ encode_lower-put_mid a k xs ys =
 pub same_more : (n m : ℕ) (xs ys : List ℕ) → take n xs ≡ take n ys → take m (drop n xs) ≡ take m (drop n ys) → take (n + m) xs ≡ take (n + m) ys
 same_more n m xs ys front next = take-add n m xs ∙ (ap (λ l. l ++ take m (drop n xs)) front ∙ (ap (λ l. take n ys ++ l) next ∙ sym (take-add n m ys)))
 
--- the last of them, too
-pub same_end : (n m k : ℕ) (xs ys : List ℕ) → m ≤ n → n - m ≤ k → take k xs ≡ take k ys → take m (drop (n - m) xs) ≡ take m (drop (n - m) ys) → take n xs ≡ take n ys
-same_end n m k xs ys small reaches front end =
-    let before : take (n - m) xs ≡ take (n - m) ys = sym (take-take (n - m) k xs reaches) ∙ (ap (take (n - m)) front ∙ take-take (n - m) k ys reaches) in
-    let whole : n - m + m ≡ n = omega (arith, small) in
-    subst (λ j. take j xs ≡ take j ys) whole (same_more (n - m) m xs ys before end)
+-- fewer of them
+pub same_front : (n k : ℕ) (xs ys : List ℕ) → n ≤ k → take k xs ≡ take k ys → take n xs ≡ take n ys
+same_front n k xs ys few front = sym (take-take n k xs few) ∙ (ap (take n) front ∙ take-take n k ys few)
 
 -- a part was made that of the other list
 pub part_renewed : (at e : ℕ) (xs ys part : List ℕ) → length xs ≡ length ys → at ≤ e → e ≤ length ys → part ≡ take (e - at) (drop at ys) → take at xs ≡ take at ys

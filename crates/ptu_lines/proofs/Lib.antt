@@ -8,6 +8,7 @@ pub mod NextLine
 pub mod Numbers
 pub mod Plain
 pub mod Ranges
+pub mod Read
 pub mod Separators
 mod WordCutting
 pub mod Encoded

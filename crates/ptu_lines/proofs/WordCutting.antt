@@ -1,7 +1,7 @@
 -- A line is cut into words, one after the other.
 use Rattle.std.proofs.Common.{◌≡◌, ◌≤◌, ◌<◌, ◌+◌, ◌-◌, ◌==◌, ◌∷◌, ℕ, zero, suc, Bool, List, length, take, drop, slice_get, slice_index, slice_range, Some, refl, ap, sym, ◌∙◌, arith, inl, inr, eq-zero-or-pos}
 use Rattle.std.proofs.lemmas.List.{length-drop, drop-drop, take_all}
-use Rattle.ptu_lines.specs.{Words.{words_of}, Cut.{start_of, HasEnds}}
+use Rattle.ptu_lines.specs.Words.{words_of, start_of, HasEnds}
 use Rattle.ptu_lines.proofs.Separators.{CutsAt, NoneIn, split-cut, split-none}
 
 abbrev pub is_space : ℕ → Bool

@@ -1,5 +1,5 @@
 -- The words of a line, and the forms that a word may have. They are the project's own choice.
-use Rattle.std.specs.Prelude.{ℕ, suc, zero, ◌+◌, ◌-◌, ◌*◌, nat_le, nat_lt, Bool, false, not, ◌&&◌, ◌||◌, ◌==◌, if◌then◌else◌, List, [], ◌∷◌, length, drop, slice_get, slice_index, map, Option, Some, None, option_map, option_and_then, ℤ, pos, negsuc, int_le}
+use Rattle.std.specs.Prelude.{◌≡◌, ◌≤◌, ◌<◌, ℕ, suc, zero, ◌+◌, ◌-◌, ◌*◌, nat_le, nat_lt, Bool, false, not, ◌&&◌, ◌||◌, ◌==◌, if◌then◌else◌, List, [], ◌∷◌, length, drop, slice_get, slice_index, slice_range, map, Option, Some, None, option_map, option_and_then, ℤ, pos, negsuc, int_le}
 use Rattle.std.specs.{Char.{is_digit}, List.{list_all, slice_split}, Str.Parse.{digits_value}}
 use Rattle.std.specs.Result.{result_ok}
 use Rattle.hex.specs.Hex.{decode_of}
@@ -86,3 +86,18 @@ octets_of word =
     if is_dash word then Some []
     else if nat_lt 0 (length word) && nat_le (length word) 4096 then result_ok (decode_of word)
     else None
+
+-- ---- where the words of a line end
+
+-- a word begins behind the space that ends the one before
+abbrev pub start_of : List ℕ → ℕ → ℕ
+start_of ends zero = 0
+start_of ends (suc k) = slice_index ends k + 1
+
+-- so many words, and the first sixteen of them end there
+abbrev pub HasEnds : List ℕ → List ℕ → ℕ → Type 0
+HasEnds line ends count =
+    (count ≡ length (words_of line))
+    × ((k : ℕ) → k < count → k < 16
+    → (start_of ends k ≤ slice_index ends k) × (slice_index ends k ≤ length line)
+    × (slice_get (words_of line) k ≡ Some (slice_range line (start_of ends k) (slice_index ends k))))

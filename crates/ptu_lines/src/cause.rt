@@ -3,8 +3,7 @@
 ghost use Rattle.std.specs.Prelude.{◌≡◌, ◌≤◌, ◌+◌, ◌++◌, Some, length};
 ghost use Rattle.ptu_lines.specs.Cause.{line_cause_text, line_cause_word};
 
-use crate::line::LineText;
-use crate::part::LinePart;
+use crate::line::{LinePart, LineText};
 use std::error::Error;
 use std::fmt;
 

@@ -1,9 +1,8 @@
 //! Octets with their digits: the digits of octets that stay as they were are not made again.
 
-ghost use Rattle.std.specs.Prelude.{◌≡◌, ◌<◌, ◌≤◌, ◌+◌, ◌^◌, [], length, take, drop, OnOk, IsTrue};
+ghost use Rattle.std.specs.Prelude.{◌≡◌, ◌<◌, ◌≤◌, ◌+◌, ◌*◌, ◌^◌, [], length, take, drop, OnOk, IsTrue};
 ghost use Rattle.hex.specs.Hex.{encode_lower};
 
-use crate::hexadecimal::write_hexadecimal;
 use ptu_units::OutOfMemory;
 use std::alloc::Global;
 use std::marker::Model;
@@ -29,6 +28,15 @@ impl Model for Digits {
     ghost invariant = { λ d. d.digits.items ≡ encode_lower d.octets.items };
 }
 
+/// Writes two hexadecimal digits in lower case for each octet, which fill the room.
+#[inline(always)]
+pub(crate) fn write_hexadecimal(octets: &[u8], room: &mut [u8])
+    requires { length room.old ≡ 2 * length octets.now }
+    ensures { room.new ≡ encode_lower octets.now }
+{
+    hex::encode_to_slice(octets, room).unwrap();
+}
+
 // Whether eight octets from a place on are there in both, and are the same.
 #[inline(always)]
 fn is_same(octets: &[u8], others: &[u8], at: usize) -> bool
@@ -44,42 +52,6 @@ fn is_same(octets: &[u8], others: &[u8], at: usize) -> bool
         (Some(part), Some(other)) => part == other,
         _ => false,
     }
-}
-
-// The end, where fewer than eight octets are left from a place up to which both are the same, and
-// the last eight are the same, too; else that place.
-#[inline(always)]
-fn past_rest(octets: &[u8], others: &[u8], at: usize) -> usize
-    requires size { length others.now ≡ length octets.now }
-    requires at { at ≤ length octets.now }
-    requires before { take at others.now ≡ take at octets.now }
-    ensures within { result ≤ length octets.now }
-    ensures before { take result others.now ≡ take result octets.now }
-    ensures further { at ≤ result }
-{
-    let size = octets.len();
-    if size < PART || size - at >= PART || !is_same(octets, others, size - PART) {
-        return at;
-    }
-    size
-}
-
-// The next place, from one on up to which both are the same, from which they differ within eight
-// octets, or fewer than eight are left and some of the last eight differ.
-#[inline(always)]
-fn next_other(octets: &[u8], others: &[u8], at: usize) -> usize
-    requires size { length others.now ≡ length octets.now }
-    requires at { at ≤ length octets.now }
-    requires before { take at others.now ≡ take at octets.now }
-    ensures within { result ≤ length octets.now }
-    ensures before { take result others.now ≡ take result octets.now }
-    ensures further { at ≤ result }
-{
-    let mut place = at;
-    'parts: while is_same(octets, others, place) {
-        place += PART;
-    }
-    past_rest(octets, others, place)
 }
 
 // Makes the octets between two places those of the other list, with their digits, where those
@@ -100,24 +72,24 @@ fn renew_part(last: &mut [u8], digits: &mut [u8], octets: &[u8], at: usize, end:
     last[at..end].copy_from_slice(part);
 }
 
-// Makes eight octets from a place on, or those that are left, those of the other list, with their
-// digits, where those before are. Answers the place behind them.
+// Makes eight octets from a place on, or the last eight where fewer are left, those of the other
+// list, with their digits, where those before the place are. Answers the place behind them.
 #[inline(always)]
-fn renew(last: &mut [u8], digits: &mut [u8], octets: &[u8], at: usize) -> usize
+fn renew(last: &mut [u8], digits: &mut [u8], octets: &[u8], place: usize) -> usize
     requires size { length last.old ≡ length octets.now }
     requires digits { digits.old ≡ encode_lower last.old }
-    requires at { at < length octets.now }
-    requires before { take at last.old ≡ take at octets.now }
+    requires many { 8 ≤ length octets.now }
+    requires place { place < length octets.now }
+    requires before { take place last.old ≡ take place octets.now }
     ensures size { length last.new ≡ length octets.now }
     ensures digits { digits.new ≡ encode_lower last.new }
     ensures before { take result last.new ≡ take result octets.now }
     ensures within { result ≤ length octets.now }
-    ensures further { at < result }
+    ensures further { place < result }
 {
-    let size = octets.len();
-    if size - at < PART {
-        renew_part(last, digits, octets, at, size);
-        return size;
+    let at = place.min(octets.len() - PART);
+    if is_same(octets, last, at) {
+        return at + PART;
     }
     // Eight are a number that is known when this is compiled.
     renew_part(last, digits, octets, at, at + PART);
@@ -132,10 +104,14 @@ fn renew_all(last: &mut [u8], digits: &mut [u8], octets: &[u8])
     ensures octets { last.new ≡ octets.now }
     ensures digits { digits.new ≡ encode_lower octets.now }
 {
-    let mut place = next_other(octets, last, 0);
-    'parts: while place < octets.len() {
-        let end = renew(last, digits, octets, place);
-        place = next_other(octets, last, end);
+    let size = octets.len();
+    if size < PART {
+        renew_part(last, digits, octets, 0, size);
+        return;
+    }
+    let mut place = 0;
+    'parts: while place < size {
+        place = renew(last, digits, octets, place);
     }
 }
 

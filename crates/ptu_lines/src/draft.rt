@@ -1,6 +1,7 @@
-//! Texts one after the other in one buffer, of which the last one is in the making.
+//! Texts one after the other in one buffer, of which the last one is in the making, and the trait of
+//! a value that is written as one text.
 
-ghost use Rattle.std.specs.Prelude.{◌≡◌, ◌++◌, [], length, OnOk};
+ghost use Rattle.std.specs.Prelude.{◌≡◌, ◌++◌, [], List, ℕ, length, OnOk};
 ghost use Rattle.hex.specs.Hex.{encode_lower};
 ghost use Rattle.ptu_lines.specs.Draft.{Drafted};
 
@@ -127,5 +128,32 @@ impl Draft {
     {
         self.octets.clear();
         self.start = 0;
+    }
+}
+
+/// A value with a text. The text is octets.
+pub trait Text {
+    /// The octets of its text.
+    ghost text: { Self → List ℕ };
+
+    /// Puts its text behind the octets of the draft.
+    ///
+    /// # Errors
+    /// `OutOfMemory`; a part of the text may stand in the draft then.
+    fn put(&self, draft: &mut Draft) -> Result<(), OutOfMemory>
+        ensures put { OnOk result (draft.new.text ≡ draft.old.text ++ text self.now) }
+        ensures done { draft.new.done ≡ draft.old.done };
+}
+
+/// Octets, as two hexadecimal digits in lower case each.
+#[derive(Clone, Copy)]
+pub struct OctetsText<'a>(pub &'a [u8]);
+
+impl Text for OctetsText<'_> {
+    ghost text = { λ o. encode_lower o.0.now };
+
+    #[inline(always)]
+    fn put(&self, draft: &mut Draft) -> Result<(), OutOfMemory> {
+        draft.put_digits(self.0)
     }
 }

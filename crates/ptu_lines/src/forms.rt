@@ -1,11 +1,13 @@
 //! The forms of the words in a line: NUM, LOG, IP, CLOCK and HEX. Each reader accepts the words of
 //! its form and no others.
 
-ghost use Rattle.std.specs.Prelude.{◌≡◌, ◌<◌, ◌≤◌, ◌^◌, ◌-◌, ◌∷◌, [], true, false, length, take, drop, Some, None, IfSome, MatchOption, option_and_then, option_map, pos, negsuc};
-ghost use Rattle.std.specs.Char.{digit_value, is_digit};
+ghost use Rattle.std.specs.Prelude.{◌≡◌, ◌<◌, ◌≤◌, ◌^◌, ◌-◌, ◌∷◌, [], true, false, length, take, drop, Some, None, IfSome, MatchOption, OnSome, option_and_then, option_map, pos, negsuc};
+ghost use Rattle.std.specs.{Char.{digit_value, is_digit}, Option.{is_some}};
+ghost use Rattle.ptu_units.specs.Log.{IsLogOf, least_log};
 ghost use Rattle.ptu_lines.specs.Words.{value_of, number_of, number_within, bytes_of, first_of_several, has_sign, int_within, log_within, ip_of, clock_of, octets_of};
 
 use ptu_units::sizes::LONGEST_DATAGRAM;
+use ptu_units::{Kind, Log};
 
 /// The most digits of a NUM.
 const MOST_DIGITS: usize = 19;
@@ -213,10 +215,28 @@ fn in_range(value: i8, least: i8, greatest: i8) -> Option<i8>
 }
 
 /// LOG: a NUM, or `-` and a NUM that is not 0, or `None` where the word is of another form or the
-/// number is not from
-/// `least` to `greatest`.
+/// number is not from `least` to `greatest`.
 pub fn log(word: &[u8], least: i8, greatest: i8) -> Option<i8>
     ensures { result ≡ log_within word.now least greatest }
 {
     in_range(plain_log(word)?, least, greatest)
+}
+
+// The logarithm, where it is in the range of the kind.
+fn of_kind(kind: Kind, value: i8) -> Option<Log>
+    ensures value { result ≡ int_within (least_log kind) (pos 4) value }
+    ensures within { IfSome result (IsLogOf kind) }
+{
+    Log::of(kind, value)
+}
+
+/// LOG, or `None` where the word is of another form or the number is out of the range of the kind.
+#[inline(always)]
+pub fn kind_log(word: &[u8], kind: Kind) -> Option<Log>
+    ensures value { result ≡ log_within word.now (least_log kind) (pos 4) }
+    ensures octet { OnSome result (is_some (log_within word.now (negsuc 127) (pos 127)) ≡ true) }
+    ensures within { IfSome result (IsLogOf kind) }
+{
+    let value = log(word, i8::MIN, i8::MAX)?;
+    of_kind(kind, value)
 }

@@ -1,9 +1,16 @@
-//! What the definitions of lines and words mean, for every script and every word.
+//! What the definitions of lines, words and texts mean, for every script and every word.
 ghost use Rattle.std.specs.Prelude.{◌≡◌, ◌↔◌, ◌<◌, ◌≤◌, ◌^◌, ℕ, ℤ, negsuc, Option, Some, None, List, [], ◌∷◌, ◌++◌, length, count_by, ◌+◌, ◌==◌, unsigned_abs, decimal, codes, option_map};
 ghost use Rattle.std.specs.{Fmt.{signed_decimal}, List.{join_with_byte, flat_map}};
+ghost use Rattle.hex.specs.Hex.{IsBytes, encode_lower};
 ghost use Rattle.ptu_lines.specs.Script.{HasNoEnd, pieces, script_lines, Whole, Refused};
 ghost use Rattle.ptu_lines.specs.Reading.{Reader, IsFresh, lines_left};
 ghost use Rattle.ptu_lines.specs.Words.{words_of, number_of, log_of, ip_of, clock_of, octets_of};
+ghost use Rattle.ptu_lines.specs.Texts.{address_text, clock_text, identity_text, kind_text};
+ghost use Rattle.ptu_lines.specs.Faults.{fault_text};
+ghost use Rattle.ptu_units.specs.declared.kind.Kind.TheVariants as kinds;
+ghost use Rattle.ptu_messages.specs.declared.header_fault.HeaderFault.TheVariants as headers;
+ghost use Rattle.ptu_messages.specs.declared.tlvs_fault.TlvFault.TheVariants as tlvs;
+ghost use Rattle.ptu_messages.specs.declared.fault.MessageFault.TheVariants as messages;
 
 use crate::cause::LineCause;
 
@@ -61,4 +68,35 @@ pub fn forms_of_words()
     ensures octets { octets_of (codes "00fF") ≡ Some (0 ∷ 255 ∷ []) }
     ensures no_octets { octets_of (codes "-") ≡ Some [] }
     ensures odd_octets { octets_of (codes "00f") ≡ None }
+{}
+
+/// The word that an address, a clockIdentity or the octets of a datagram are written as has the
+/// form of IP, CLOCK or HEX, and is read as just these. (NUM and LOG are what numbers are printed
+/// as, by `numbers_of_words`.)
+pub fn words_are_read_again()
+    ensures address { (ip : ℕ) → ip < 2 ^ 32 → ip_of (address_text ip) ≡ Some ip }
+    ensures clock { (clock : ℕ) → clock < 2 ^ 64 → clock_of (clock_text clock) ≡ Some clock }
+    ensures octets { (octets : List ℕ) → IsBytes octets → 1 ≤ length octets →
+        length octets ≤ 2048 → octets_of (encode_lower octets) ≡ Some octets }
+{}
+
+/// The texts of values that were made out by hand. The highest octet comes first, no digit of a
+/// clockIdentity is left out, and the numbers of a fault come in their order.
+pub fn sample_texts()
+    ensures names { (address_text 0x0a000111 ≡ codes "10.0.1.17")
+        × (clock_text 0x0a00000000000011 ≡ codes "0a00000000000011")
+        × (identity_text (record { clock = 0xffffffffffffffff; port = 65535 })
+            ≡ codes "ffffffffffffffff/65535")
+        × (kind_text kinds.Announce ≡ codes "announce")
+        × (kind_text kinds.Sync ≡ codes "sync")
+        × (kind_text kinds.DelayResp ≡ codes "delay_resp") }
+    ensures faults { (fault_text (messages.Header (headers.Short 33)) ≡ codes "short 33")
+        × (fault_text (messages.Header (headers.Version 1)) ≡ codes "version 1")
+        × (fault_text (messages.Header (headers.Sdo 3)) ≡ codes "sdo 3")
+        × (fault_text (messages.Header (headers.Length 55 54)) ≡ codes "length 55 54")
+        × (fault_text (messages.Body 43 44) ≡ codes "body 43 44")
+        × (fault_text (messages.TooMany 172) ≡ codes "toomany 172")
+        × (fault_text (messages.Tlv 54 (tlvs.Short 3)) ≡ codes "tlv 54 short 3")
+        × (fault_text (messages.Tlv 44 (tlvs.Overrun 6 5)) ≡ codes "tlv 44 overrun 6 5")
+        × (fault_text (messages.Tlv 44 (tlvs.Length 4 5)) ≡ codes "tlv 44 length 4 5") }
 {}

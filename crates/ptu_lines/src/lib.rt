@@ -1,12 +1,12 @@
-//! Scripts read line by line, and the forms of their words.
+//! Scripts read line by line, the forms of their words, and how values stand in lines of output.
 #![tactic(auto)]
 
 mod cause;
 mod digits;
 mod draft;
 mod fault;
+mod fault_texts;
 mod forms;
-mod hexadecimal;
 pub mod laws;
 mod lent_octets;
 mod line;
@@ -14,17 +14,16 @@ mod line_buffer;
 mod line_reader;
 mod line_words;
 mod lines;
-mod part;
-mod text;
+mod names;
 
 pub use cause::LineCause;
-pub use draft::Draft;
+pub use draft::{Draft, OctetsText, Text};
 pub use fault::LinesFault;
-pub use forms::{clock, ip, log, number, octets};
+pub use fault_texts::FaultText;
+pub use forms::{clock, ip, kind_log, log, number, octets};
 pub use lent_octets::LentOctets;
-pub use line::LineText;
+pub use line::{LinePart, LineText};
 pub use line_reader::LineReader;
 pub use line_words::{KEPT_WORDS, WordList, word};
 pub use lines::Lines;
-pub use part::LinePart;
-pub use text::Text;
+pub use names::{AddressText, ClockText, IdentityText, KindText, LogText};

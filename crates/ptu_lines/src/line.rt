@@ -1,12 +1,12 @@
 //! A line in the making, written from its last octet to its first, so that numbers need no buffer
-//! of their own.
+//! of their own, and the trait of what is written as a part of it.
 
-ghost use Rattle.std.specs.Prelude.{◌≡◌, ◌≤◌, ◌+◌, ◌*◌, ◌++◌, [], length};
+ghost use Rattle.std.specs.Prelude.{◌≡◌, ◌≤◌, ◌+◌, ◌*◌, ◌++◌, [], List, ℕ, codes, length};
 ghost use Rattle.std.specs.Fmt.{decimal, signed_decimal};
 ghost use Rattle.hex.specs.Hex.{encode_lower};
-ghost use Rattle.ptu_lines.specs.Line.{Line};
+ghost use Rattle.ptu_lines.specs.Draft.{Line};
 
-use crate::hexadecimal::write_hexadecimal;
+use crate::digits::write_hexadecimal;
 use itoa::write_digits;
 use std::marker::Model;
 
@@ -24,7 +24,7 @@ pub struct LineText {
 
 impl Model for LineText {
     ghost use Rattle.std.specs.Prelude.{◌≤◌, drop};
-    ghost use Rattle.ptu_lines.specs.Line.{Line};
+    ghost use Rattle.ptu_lines.specs.Draft.{Line};
 
     ghost Value = { Line };
 
@@ -86,6 +86,28 @@ impl LineText {
         }
     }
 
+    /// Puts the words, and the number in decimal digits behind them, before what stands.
+    pub fn put_one(&mut self, words: &str, number: u64)
+        requires { length words.now + 20 ≤ self.old.room }
+        ensures text { self.new.text ≡ words.now ++ (decimal number ++ self.old.text) }
+        ensures room { self.old.room ≤ self.new.room + (length words.now + 20) }
+    {
+        self.put_number(number);
+        self.put_str(words);
+    }
+
+    /// Puts the words, and two numbers with a space between them, before what stands.
+    pub fn put_two(&mut self, words: &str, first: u64, second: u64)
+        requires { length words.now + 41 ≤ self.old.room }
+        ensures text { self.new.text
+            ≡ words.now ++ (decimal first ++ (codes " " ++ (decimal second ++ self.old.text))) }
+        ensures room { self.old.room ≤ self.new.room + (length words.now + 41) }
+    {
+        self.put_number(second);
+        self.put_str(" ");
+        self.put_one(words, first);
+    }
+
     /// Puts two hexadecimal digits in lower case for each octet before what stands.
     pub fn put_digits(&mut self, octets: &[u8])
         requires { 2 * length octets.now ≤ self.old.room }
@@ -103,4 +125,19 @@ impl LineText {
     {
         &self.octets[self.at..]
     }
+}
+
+/// A part of a line: it has a text, of at most so many octets.
+pub trait LinePart {
+    /// The octets of its text.
+    ghost text: { Self → List ℕ };
+
+    /// The most octets that the text may have.
+    ghost most: { Self → ℕ };
+
+    /// Puts its text before what stands in the line.
+    fn put(self, line: &mut LineText)
+        requires { most self ≤ line.old.room }
+        ensures text { line.new.text ≡ text self ++ line.old.text }
+        ensures room { line.old.room ≤ line.new.room + most self };
 }

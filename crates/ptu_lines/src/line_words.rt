@@ -2,7 +2,7 @@
 
 ghost use Rattle.std.specs.Prelude.{◌≡◌, ◌<◌, ◌∷◌, [], ◌==◌, length, ℕ, position, slice_get, slice_index, IfNone, IfSome};
 ghost use Rattle.std.specs.{List.{slice_split}, Option.{option_copied}};
-ghost use Rattle.ptu_lines.specs.{Words.{words_of, word_of}, Cut.{HasEnds}};
+ghost use Rattle.ptu_lines.specs.Words.{words_of, word_of, HasEnds};
 
 use memchr::memchr;
 use std::marker::Model;
@@ -68,7 +68,7 @@ pub struct WordList<'a> {
 
 impl<'a> Model for WordList<'a> {
     ghost use Rattle.std.specs.Prelude.{List, ℕ};
-    ghost use Rattle.ptu_lines.specs.Cut.{HasEnds};
+    ghost use Rattle.ptu_lines.specs.Words.{HasEnds};
 
     ghost Value = { List ℕ };
 

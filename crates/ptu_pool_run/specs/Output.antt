@@ -1,7 +1,7 @@
 -- The lines of output on a script of pools. The words are the project's own choice.
 use Rattle.std.specs.{Prelude.{ℕ, List, [], ◌∷◌, ◌++◌, codes}, Fmt.{decimal}}
 use Rattle.hex.specs.Hex.{encode_lower}
-use Rattle.ptu_texts.specs.Texts.{address_text}
+use Rattle.ptu_lines.specs.Texts.{address_text}
 use Rattle.ptu_report_lines.specs.Statements.{channel_text, words_text}
 use Rattle.ptu_pool_run.specs.{Cause.{pool_cause_text}, declared.cause.PoolCause.{PoolCause}}
 use Rattle.ptu_pool_run.specs.declared.output.PoolLine.{PoolLine}

@@ -1,15 +1,14 @@
 //! The lines that `pools` writes.
 
 ghost use Rattle.std.specs.{Prelude.{◌≡◌, ◌++◌, [], OnOk, codes}, Fmt.{decimal}};
-ghost use Rattle.ptu_texts.specs.Texts.{address_text};
+ghost use Rattle.ptu_lines.specs.Texts.{address_text};
 ghost use Rattle.ptu_report_lines.specs.Statements.{channel_text};
 ghost use Rattle.ptu_pool_run.specs.Output.{pool_line_text};
 
 use crate::cause::PoolCause;
-use ptu_lines::{Draft, LentOctets, LinePart, LineText, Text};
+use ptu_lines::{AddressText, Draft, LentOctets, LinePart, LineText, Text};
 use ptu_outside::Channel;
 use ptu_report_lines::ChannelText;
-use ptu_texts::AddressText;
 use ptu_units::OutOfMemory;
 
 /// A line of output. Its text has the 0A at its end. Lines of the script are numbered from 1.

@@ -23,8 +23,6 @@ pub unfit : (form line : List ℕ) → fits form line ≡ false → fitting form
 unfolding fitting
 unfit form line e = rw e refl
 
-unfolding fitting
-
 -- one of these forms is that of the line
 pub among : (groups : List (List (List ℕ))) (line : List ℕ) (i j : ℕ) → i < length groups → j < length (get_or groups i [])
     → fits (get_or (get_or groups i []) j []) line ≡ true → is_among groups line ≡ true

@@ -8,8 +8,7 @@ use Rattle.ptu_messages.specs.declared.tlvs_fault.TlvFault.{TlvFault}
 use Rattle.ptu_messages.specs.declared.tlvs_fault.TlvFault.TheVariants as tlvs
 use Rattle.ptu_messages.specs.declared.fault.MessageFault.{MessageFault}
 use Rattle.ptu_messages.specs.declared.fault.MessageFault.TheVariants as messages
-use Rattle.ptu_texts.specs.Texts.{address_text, kind_text}
-use Rattle.ptu_lines.specs.Words.{words_of}
+use Rattle.ptu_lines.specs.{Texts.{address_text, kind_text}, Words.{words_of}}
 use Rattle.ptu_report_lines.specs.declared.delay.DelayAnswer.{DelayAnswer}
 use Rattle.ptu_report_lines.specs.declared.delay.DelayAnswer.TheVariants as delays
 use Rattle.ptu_report_lines.specs.declared.hearing.Hearing.{Hearing}

@@ -2,9 +2,8 @@
 use Rattle.std.proofs.Common.{◌≡◌, ℕ, true, List, [], ◌∷◌, codes, refl}
 use Rattle.std.specs.Fmt.{decimal}
 use Rattle.ptu_units.specs.declared.kind.Kind.{Kind}
-use Rattle.ptu_texts.specs.Texts.{address_text, kind_text}
-use Rattle.ptu_texts.proofs.Read.{address_read}
-use Rattle.ptu_lines.specs.Words.{words_of}
+use Rattle.ptu_lines.specs.{Texts.{address_text, kind_text}, Words.{words_of}}
+use Rattle.ptu_lines.proofs.Read.{address_read}
 use Rattle.ptu_audit_lines.specs.Forms.{fit, fits, is_in_place}
 use Rattle.ptu_read_back.specs.Ranges.{IsAddress, IsNumber}
 use Rattle.ptu_read_back.proofs.Values.{kind_read, number_read}

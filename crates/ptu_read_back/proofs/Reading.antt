@@ -5,9 +5,8 @@ use Rattle.ptu_units.specs.{declared.kind.Kind.{Kind}, Log.{IsLogOf}}
 use Rattle.hex.specs.Hex.{encode_lower}
 use Rattle.ptu_messages.specs.declared.header.PortIdentity.{PortIdentity}
 use Rattle.ptu_units.specs.declared.client.Client.{Client}
-use Rattle.ptu_lines.specs.{Script.{text_of}, Words.{words_of}}
-use Rattle.ptu_texts.specs.Texts.{address_text, identity_text, kind_text}
-use Rattle.ptu_texts.proofs.Read.{address_read}
+use Rattle.ptu_lines.specs.{Script.{text_of}, Texts.{address_text, identity_text, kind_text}, Words.{words_of}}
+use Rattle.ptu_lines.proofs.Read.{address_read}
 use Rattle.ptu_report_lines.specs.declared.decision.Decision.{Decision}
 use Rattle.ptu_report_lines.specs.declared.decision.Decision.TheVariants as decisions
 use Rattle.ptu_report_lines.specs.declared.delay.DelayAnswer.{DelayAnswer}

@@ -14,7 +14,7 @@ use Rattle.ptu_messages.specs.declared.fault.MessageFault.TheVariants as message
 use Rattle.ptu_script.specs.declared.cause.Cause.{Cause}
 use Rattle.ptu_lines.specs.declared.cause.LineCause.TheVariants as line_causes
 use Rattle.ptu_script.specs.declared.cause.Cause.TheVariants as causes
-use Rattle.ptu_texts.specs.Texts.{address_text, identity_text, kind_text}
+use Rattle.ptu_lines.specs.Texts.{address_text, identity_text, kind_text}
 use Rattle.ptu_report_lines.specs.declared.decision.Decision.{Decision}
 use Rattle.ptu_report_lines.specs.declared.decision.Decision.TheVariants as decisions
 use Rattle.ptu_report_lines.specs.declared.delay.DelayAnswer.{DelayAnswer}

@@ -13,10 +13,8 @@ use Rattle.ptu_units.specs.declared.kind.{Kind.{Kind}, Kind.TheVariants.{Announc
 use Rattle.ptu_units.specs.{Log.{IsLogOf, least_log}}
 use Rattle.ptu_messages.specs.declared.header.PortIdentity.{PortIdentity}
 use Rattle.ptu_outside.specs.declared.channel.{Channel.{Channel}, Channel.TheVariants.{Event, General}}
-use Rattle.ptu_texts.specs.Texts.{address_text, clock_text, identity_text, kind_text}
-use Rattle.ptu_texts.proofs.Read.{clock_read, decimal_glyphs, decimal_within, octets_bytes, octets_glyphs, octets_read}
-use Rattle.ptu_lines.specs.Words.{int_within, log_of}
-use Rattle.ptu_lines.proofs.Numbers.{printed-log_of}
+use Rattle.ptu_lines.specs.{Texts.{address_text, clock_text, identity_text, kind_text}, Words.{int_within, log_of}}
+use Rattle.ptu_lines.proofs.{Numbers.{printed-log_of}, Read.{clock_read, decimal_glyphs, decimal_within, octets_bytes, octets_glyphs, octets_read}}
 use Rattle.ptu_report_lines.specs.Statements.{channel_text}
 use Rattle.ptu_audit_lines.specs.Words.{any_number, hex_of, identity_in_word, is_channel, is_lower, kind_named, log_of_kind, log_outside, lower_clock, octet_log}
 use Rattle.ptu_read_back.specs.Ranges.{IsAddress, IsNumber, IsOctetLog}

@@ -3,10 +3,9 @@ use Rattle.std.proofs.Common.{◌≡◌, ◌∙◌, ℕ, zero, suc, ◌+◌, ◌
 use Rattle.std.specs.List.{AllByRecursion, list_all, onto_first, slice_split}
 use Rattle.std.proofs.lemmas.Bool.{and_parts, le-leb, leb-true}
 use Rattle.std.proofs.lemmas.{Bool.Decides.{nat_tests}, List.{length-append}}
-use Rattle.ptu_lines.specs.Script.{HasNoEnd, is_plain}
-use Rattle.ptu_lines.specs.Words.{words_of}
+use Rattle.ptu_lines.specs.{Script.{HasNoEnd, is_plain}, Words.{words_of}}
 use Rattle.ptu_report_lines.specs.Statements.{words_text}
-use Rattle.ptu_texts.proofs.Read.{AreGlyphs}
+use Rattle.ptu_lines.proofs.Read.{AreGlyphs}
 
 -- octets of a word: no space and nothing that is not printed
 abbrev pub AreInk : List ℕ → Type 0

@@ -6,7 +6,7 @@ use Rattle.ptu_units.specs.{declared.kind.Kind.{Kind}, Kind.{kind_of}}
 use Rattle.ptu_outside.specs.declared.channel.Channel.{Channel}
 use Rattle.ptu_outside.specs.declared.channel.Channel.TheVariants.{Event, General}
 use Rattle.ptu_units.specs.declared.client.Client.{Client}
-use Rattle.ptu_texts.specs.{Texts.{address_text, identity_text, kind_text}, Faults.{fault_text}}
+use Rattle.ptu_lines.specs.{Texts.{address_text, identity_text, kind_text}, Faults.{fault_text}}
 use Rattle.ptu_script.specs.Cause as causes
 use Rattle.ptu_report_lines.specs.declared.decision.Decision.{Decision}
 use Rattle.ptu_report_lines.specs.declared.decision.Decision.TheVariants as decisions

@@ -3,7 +3,7 @@ use Rattle.std.specs.Prelude.{ℕ, ◌+◌, ◌∷◌, [], List, ◌++◌, map, 
 use Rattle.std.specs.Fmt.{decimal, signed_decimal}
 use Rattle.ptu_report_lines.specs.declared.words.Word.{Word}
 use Rattle.ptu_report_lines.specs.declared.words.Word.TheVariants as words
-use Rattle.ptu_texts.specs.Texts.{address_text, identity_text, kind_text}
+use Rattle.ptu_lines.specs.Texts.{address_text, identity_text, kind_text}
 use Rattle.ptu_report_lines.specs.Statements.{channel_text, code_text, selected_text}
 
 abbrev pub word_text : Word → List ℕ

@@ -2,13 +2,12 @@
 
 ghost use Rattle.std.specs.Prelude.{◌≡◌, ◌≤◌, ◌+◌, ◌++◌, ◌∷◌, [], codes, length};
 ghost use Rattle.std.specs.Fmt.{decimal, signed_decimal};
-ghost use Rattle.ptu_texts.specs.Texts.{kind_text};
+ghost use Rattle.ptu_lines.specs.Texts.{kind_text};
 ghost use Rattle.ptu_report_lines.specs.Statements.{decision_text, words_text};
 ghost use Rattle.ptu_report_lines.specs.declared.decision.Decision.TheVariants as decisions;
 
 use crate::words::{Word, put_words};
-use ptu_lines::{LinePart, LineText};
-use ptu_texts::KindText;
+use ptu_lines::{KindText, LinePart, LineText};
 use ptu_units::{Kind, Moment};
 
 /// What a grandmaster decided on a REQUEST or a CANCEL. Rates and capacities are in sixteenths of a

@@ -1,7 +1,7 @@
 //! The lines of a report about messages that a slave accepted.
 
 ghost use Rattle.std.specs.{Prelude.{◌≡◌, ◌≤◌, ◌+◌, ◌++◌, ◌∷◌, [], codes}, Fmt.{decimal}};
-ghost use Rattle.ptu_texts.specs.Texts.{address_text};
+ghost use Rattle.ptu_lines.specs.Texts.{address_text};
 ghost use Rattle.ptu_report_lines.specs.Statements.{hearing_text, words_text};
 
 use crate::words::{Word, put_words};

@@ -3,9 +3,8 @@
 ghost use Rattle.std.specs.Prelude.{◌≡◌, ◌≤◌, ◌+◌, ◌++◌};
 ghost use Rattle.ptu_report_lines.specs.Statements.{reason_text};
 
-use ptu_lines::{LinePart, LineText};
+use ptu_lines::{FaultText, LinePart, LineText};
 use ptu_messages::MessageFault;
-use ptu_texts::FaultText;
 
 /// Why a node ignored a datagram.
 #[derive(Clone, Copy)]

@@ -1,15 +1,14 @@
 //! Datagrams that the nodes of a script sent, owned or borrowed, and the line of each.
 
 ghost use Rattle.std.specs.{Prelude.{◌≡◌, ◌++◌, [], codes}, Fmt.{decimal}};
-ghost use Rattle.ptu_texts.specs.Texts.{address_text};
+ghost use Rattle.ptu_lines.specs.Texts.{address_text};
 ghost use Rattle.ptu_report_lines.specs.{Statements.{channel_text}, Report.{line_text}};
 ghost use Rattle.ptu_report_lines.specs.declared.report_line.ReportLine.TheVariants as lines;
 ghost use Rattle.ptu_report_lines.specs.declared.statement.Statement.TheVariants as statements;
 
 use crate::words::ChannelText;
-use ptu_lines::{Draft, LinePart, LineText, Text};
+use ptu_lines::{AddressText, Draft, LinePart, LineText, Text};
 use ptu_outside::{Channel, Datagram};
-use ptu_texts::AddressText;
 use ptu_units::OutOfMemory;
 use std::marker::Model;
 

@@ -4,10 +4,9 @@ ghost use Rattle.std.specs.Prelude.{◌≡◌, ◌≤◌, ◌+◌, ◌++◌};
 ghost use Rattle.ptu_report_lines.specs.Statements.{channel_text, words_text};
 ghost use Rattle.ptu_report_lines.specs.Words.{most, most_of, spaced_text, word_texts, word_text};
 
-use ptu_lines::{LinePart, LineText};
+use ptu_lines::{AddressText, IdentityText, KindText, LinePart, LineText};
 use ptu_messages::PortIdentity;
 use ptu_outside::Channel;
-use ptu_texts::{AddressText, IdentityText, KindText};
 use ptu_units::Kind;
 
 /// A word of a line.

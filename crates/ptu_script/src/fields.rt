@@ -1,15 +1,15 @@
 //! The words of a line, each in the form that its place asks for.
 
 ghost use Rattle.std.specs.Prelude.{◌≡◌, ◌≤◌, ◌≤ℤ◌, pos, IfOk, Some, None, IfSome, MatchOption, option_and_then, option_copied, length, take};
-ghost use Rattle.ptu_units.specs.Log.{IsLogOf, least_log};
+ghost use Rattle.ptu_units.specs.Log.{IsLogOf};
 ghost use Rattle.ptu_units.specs.Limits.{IsCapacity, IsDomain, IsDuration, IsPort, IsTimeout, IsWait};
 ghost use Rattle.ptu_units.specs.declared.kind.Kind.TheVariants as kinds;
-ghost use Rattle.ptu_lines.specs.Words.{word_of, int_within, ip_of, clock_of, octets_of};
+ghost use Rattle.ptu_lines.specs.Words.{word_of, ip_of, clock_of, octets_of};
 ghost use Rattle.ptu_script.specs.Fields.{or_field, field, from_to, log_of_kind, delay_log, rule_named, truth_of};
 ghost use Rattle.ptu_script.specs.Fields.{port_number_of, domain_of, capacity_of, duration_of, timeout_of, wait_of};
 ghost use Rattle.ptu_script.specs.{Command.{moment_of}, Limits.{IsNamed}};
 
-use ptu_lines::{LentOctets, LineCause, WordList, clock, ip, log, number, octets};
+use ptu_lines::{LentOctets, LineCause, WordList, clock, ip, kind_log, number, octets};
 use ptu_record::{NAMED_GAP, Rule};
 use ptu_units::sizes::LONGEST_DATAGRAM;
 use ptu_units::{
@@ -255,27 +255,11 @@ pub fn moment_field(line: &WordList, k: u8) -> Result<Moment, LineCause>
     or_outside(moment_at(line, k), k)
 }
 
-// The logarithm, where it is in the range of the kind.
-fn of_kind(kind: Kind, value: i8) -> Option<Log>
-    ensures value { result ≡ int_within (least_log kind) (pos 4) value }
-    ensures within { IfSome result (IsLogOf kind) }
-{
-    Log::of(kind, value)
-}
-
-fn log_of(word: &[u8], kind: Kind) -> Option<Log>
-    ensures value { result ≡ log_of_kind kind word.now }
-    ensures within { IfSome result (IsLogOf kind) }
-{
-    let value = log(word, i8::MIN, i8::MAX)?;
-    of_kind(kind, value)
-}
-
 fn log_at(line: &WordList, k: u8, kind: Kind) -> Option<Log>
     ensures value { result ≡ option_and_then (log_of_kind kind) (word_of line.now k) }
     ensures within { IfSome result (IsLogOf kind) }
 {
-    log_of(line.word(usize::from(k))?, kind)
+    kind_log(line.word(usize::from(k))?, kind)
 }
 
 /// The logarithm of a mean interval that word k of the line writes, in the range of the kind.

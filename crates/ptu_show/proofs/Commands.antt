@@ -10,7 +10,7 @@ use Rattle.ptu_script.specs.declared.verb.{Verb.{Verb}, Verb.TheVariants.{Gm, Rx
 use Rattle.ptu_script.specs.Command.{command_of, fields_in, grandmaster_in, is_comment, moment_of}
 use Rattle.ptu_script.specs.{Cause.{named}, Fields.{◌>>=◌, from_to}, Verb.{counts_of, name_of, verb_among, verbs}}
 use Rattle.ptu_show.proofs.Going.{address}
-use Rattle.ptu_texts.proofs.Read.{decimal_glyphs, decimal_within, octets_glyphs, octets_read}
+use Rattle.ptu_lines.proofs.Read.{decimal_glyphs, decimal_within, octets_glyphs, octets_read}
 use Rattle.ptu_show.proofs.Words.{address_read, client_words, grandmaster_words, turn_words}
 
 -- a line with these words begins with a verb, and has as many words as the verb asks for

@@ -18,7 +18,7 @@ use Rattle.ptu_show.proofs.Commands.{client_address, client_line, client_says, g
 use Rattle.ptu_show.proofs.Going.{IsGoing, address, goes_whole, receive_taken, setup_taken, turn_taken}
 use Rattle.ptu_show.proofs.LoadLines.{IsShortText, ended, lines_whole}
 use Rattle.ptu_show.proofs.Requests.{length-request, request_bytes}
-use Rattle.ptu_texts.proofs.Read.{decimal_glyphs, octets_glyphs}
+use Rattle.ptu_lines.proofs.Read.{decimal_glyphs, octets_glyphs}
 use Rattle.ptu_show.proofs.Words.{plain_alone, plain_behind}
 
 -- a short plain text with a 0A, which is taken wherever the grandmaster stands

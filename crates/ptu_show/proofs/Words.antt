@@ -3,7 +3,7 @@ use Rattle.std.proofs.Common.{◌≡◌, ◌∙◌, ℕ, ◌+◌, ◌*◌, ◌�
 use Rattle.std.specs.{Fmt.{digits}, List.{list_all, onto_first, slice_split}}
 use Rattle.std.proofs.lemmas.{Bool.{le-leb}, List.{append-nil}}
 use Rattle.ptu_lines.specs.{Script.{is_plain}, Words.{ip_of, words_of}}
-use Rattle.ptu_texts.proofs.Read.{AreGlyphs, dotted_read, split_alone, split_before, split_behind}
+use Rattle.ptu_lines.proofs.Read.{AreGlyphs, dotted_read, split_alone, split_before, split_behind}
 
 -- glyphs are plain
 pub plain_behind : (xs ys : List ℕ) → AreGlyphs xs → list_all is_plain ys ≡ true → list_all is_plain (xs ++ ys) ≡ true

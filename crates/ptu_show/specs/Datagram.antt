@@ -9,7 +9,7 @@ use Rattle.ptu_messages.specs.declared.message.Body.{Body}
 use Rattle.ptu_messages.specs.declared.message.Body.TheVariants as bodies
 use Rattle.ptu_messages.specs.declared.message.Message.{Message}
 use Rattle.ptu_messages.specs.{declared.fault.MessageFault.{MessageFault}, Reading.{message_in}}
-use Rattle.ptu_texts.specs.{Texts.{clock_text, identity_text}, Faults.{fault_text}}
+use Rattle.ptu_lines.specs.{Texts.{clock_text, identity_text}, Faults.{fault_text}}
 
 -- the name of a messageType (IEEE 1588-2019 table 36), or its number
 abbrev pub type_text : ℕ → List ℕ

@@ -1,6 +1,6 @@
 -- How each line that `show` writes is written.
 use Rattle.std.specs.Prelude.{ℕ, List, ◌++◌, codes}
-use Rattle.ptu_texts.specs.Faults.{fault_text}
+use Rattle.ptu_lines.specs.Faults.{fault_text}
 use Rattle.ptu_show.specs.declared.lines.ShowLine.{ShowLine}
 use Rattle.ptu_show.specs.declared.lines.ShowLine.TheVariants.{Message, Fault, Bad, End}
 use Rattle.ptu_show.specs.{Datagram.{message_text}, Shown.{bad_line, end_line, numbered_line}}

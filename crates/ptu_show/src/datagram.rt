@@ -3,13 +3,12 @@
 ghost use Rattle.std.specs.Prelude.{◌≡◌, ◌≤◌, ◌+◌, ◌++◌, [], OnOk, codes};
 ghost use Rattle.std.specs.{Fmt.{decimal}, List.{flat_map}};
 ghost use Rattle.ptu_messages.specs.declared.message.Body.TheVariants as bodies;
-ghost use Rattle.ptu_texts.specs.Texts.{identity_text};
+ghost use Rattle.ptu_lines.specs.Texts.{identity_text};
 ghost use Rattle.ptu_show.specs.Datagram.{ask_text, body_text, message_text, stamp_text};
 ghost use Rattle.ptu_show.specs.{Datagram.{tlv_text, type_text}, Shown.{numbered_line}};
 
-use ptu_lines::{Draft, LinePart, LineText, Text};
+use ptu_lines::{ClockText, Draft, IdentityText, LinePart, LineText, Text};
 use ptu_messages::{AnnounceBody, Ask, Body, Message, Tlv};
-use ptu_texts::{ClockText, IdentityText};
 use ptu_units::message_types::{ANNOUNCE, DELAY_REQ, DELAY_RESP, FOLLOW_UP, SIGNALING, SYNC};
 use ptu_units::{OutOfMemory, Stamp};
 

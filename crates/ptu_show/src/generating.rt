@@ -13,11 +13,10 @@ ghost use Rattle.ptu_show.specs.Whole.{LoadsAreWhole};
 ghost use Rattle.ptu_show.specs.LoadSamples.{LinesAre, LinesAreCounted, LogarithmsAre, QuotientsAre};
 
 use crate::LabFault;
-use ptu_lines::{Draft, LineText, Text};
+use ptu_lines::{Draft, LineText, OctetsText, Text};
 use ptu_messages::{Ask, Header, PortIdentity, Tlv, flags, write_signaling};
 use ptu_outside::{Sink, write_whole};
 use ptu_report::RunFault;
-use ptu_texts::OctetsText;
 use ptu_units::OutOfMemory;
 use ptu_units::message_types::SIGNALING;
 use ptu_units::sizes::LONGEST_SIGNALING;

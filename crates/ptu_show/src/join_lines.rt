@@ -4,9 +4,8 @@ ghost use Rattle.std.specs.Prelude.{◌≡◌, ◌++◌, [], OnOk, codes};
 ghost use Rattle.hex.specs.Hex.{encode_lower};
 ghost use Rattle.ptu_show.specs.{JoinLines.{join_line_text}, Shown.{numbered_line}};
 
-use ptu_lines::{Draft, LinePart, LineText, Text};
+use ptu_lines::{Draft, LinePart, LineText, OctetsText, Text};
 use ptu_script::Cause;
-use ptu_texts::OctetsText;
 use ptu_units::OutOfMemory;
 
 /// A line that `join` writes, with the 0A at its end. All but the last begin with the number of the

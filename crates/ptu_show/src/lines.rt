@@ -4,9 +4,8 @@ ghost use Rattle.std.specs.Prelude.{◌≡◌, ◌++◌, OnOk};
 ghost use Rattle.ptu_show.specs.Lines.{show_line_text};
 
 use crate::datagram::MessageText;
-use ptu_lines::{Draft, LinePart, LineText, Text};
+use ptu_lines::{Draft, FaultText, LinePart, LineText, Text};
 use ptu_script::Cause;
-use ptu_texts::FaultText;
 use ptu_units::OutOfMemory;
 
 /// A line that `show` writes, with the 0A at its end. All but the last begin with the number of the

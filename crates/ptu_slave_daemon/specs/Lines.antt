@@ -3,7 +3,7 @@ use Rattle.std.specs.Prelude.{ℕ, Bool, true, false, cond, ◌==◌, List, [], 
 use Rattle.std.specs.Fmt.{decimal}
 use Rattle.ptu_record.specs.Record.{Record}
 use Rattle.ptu_slave_messages.specs.Node.{Node}
-use Rattle.ptu_texts.specs.Texts.{address_text}
+use Rattle.ptu_lines.specs.Texts.{address_text}
 use Rattle.ptu_config.specs.{declared.settings.SlaveSettings.{SlaveSettings}, Rounds.{all_slave_rounds}}
 use Rattle.ptu_slave_daemon.specs.declared.line.SlaveLine.{SlaveLine}
 use Rattle.ptu_slave_daemon.specs.declared.line.SlaveLine.TheVariants.{Selected, Closing}

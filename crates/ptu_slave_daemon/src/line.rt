@@ -3,7 +3,7 @@
 ghost use Rattle.std.specs.Prelude.{Some};
 ghost use Rattle.ptu_slave_daemon.specs.Lines.{slave_line_text, master_text};
 
-use ptu_texts::AddressText;
+use ptu_lines::AddressText;
 use std::fmt;
 
 // The address of the master that is selected, or the word `none`.

@@ -1,5 +1,4 @@
-use ptu_lines::{Draft, LinePart, LineText};
-use ptu_texts::LogText;
+use ptu_lines::{Draft, LinePart, LineText, LogText};
 use ptu_units::{Kind, Log};
 use std::test::Fail;
 

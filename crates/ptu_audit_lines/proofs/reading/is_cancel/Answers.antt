@@ -1,6 +1,8 @@
-use Rattle.std.proofs.Common.{sym, arith}
-use Rattle.ptu_audit_lines.proofs.Fields.{none_cancel}
+use Rattle.std.proofs.Common.{codes, refl, sym, arith}
+use Rattle.ptu_audit_lines.specs.{Forms.{is_in_place}, Entry.{cancel_forms}}
+use Rattle.ptu_audit_lines.proofs.Fields.{none_named}
 use Rattle.ptu_audit_lines.proofs.reading.is_cancel.Goals as goal
 
 pub returns-then-not-is_named-2 : goal.returns-then-not-is_named-2
-returns-then-not-is_named-2 c = sym (none_cancel c.args.line.now (grind arith) (grind arith))
+unfolding is_in_place
+returns-then-not-is_named-2 c = sym (none_named (codes "cancel") (codes "ack") c.args.line.now cancel_forms (λ word. refl) (λ word. refl) refl (grind arith) (grind arith))

@@ -1,6 +1,8 @@
-use Rattle.std.proofs.Common.{sym, arith}
-use Rattle.ptu_audit_lines.proofs.Fields.{none_grant}
+use Rattle.std.proofs.Common.{codes, refl, sym, arith}
+use Rattle.ptu_audit_lines.specs.{Forms.{is_in_place}, Entry.{grant_forms}}
+use Rattle.ptu_audit_lines.proofs.Fields.{none_named}
 use Rattle.ptu_audit_lines.proofs.reading.is_grant.Goals as goal
 
 pub returns-then-not-is_named-2 : goal.returns-then-not-is_named-2
-returns-then-not-is_named-2 c = sym (none_grant c.args.line.now (grind arith) (grind arith))
+unfolding is_in_place
+returns-then-not-is_named-2 c = sym (none_named (codes "grant") (codes "denial") c.args.line.now grant_forms (λ word. refl) (λ word. refl) refl (grind arith) (grind arith))

@@ -1,7 +1,7 @@
 use Rattle.std.proofs.Common.{rules, codes, ◌≡◌, ◌++◌, ◌∷◌, [], ℕ, List, Result, Ok, Err, OnOk, ap, ◌∙◌, append_assoc}
 use Rattle.std.specs.Fmt.{decimal}
 use Rattle.hex.specs.Hex.{encode_lower}
-use Rattle.ptu_texts.specs.Texts.{address_text}
+use Rattle.ptu_lines.specs.Texts.{address_text}
 use Rattle.ptu_report_lines.specs.Statements.{channel_text, words_text}
 use Rattle.ptu_report_lines.proofs.sent.SentLineText.put.Goals as goal
 

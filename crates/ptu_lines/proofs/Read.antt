@@ -11,10 +11,8 @@ use Rattle.hex.specs.Hex.{IsBytes, encode_lower, encode_with, hex_digit_value, l
 use Rattle.hex.proofs.HexLemmas.{IsDigits-lower_digits, decode_of-encode_lower, length-encode_with}
 use Rattle.ptu_units.specs.Number as numbers
 use Rattle.ptu_units.proofs.BigEndian.{length-octets_of, number_at-octets_of}
-use Rattle.ptu_lines.specs.Words.{address_of, clock_of, ip_of, number_within, octets_of, within}
-use Rattle.ptu_lines.proofs.{DecimalDigits.{list_all-digits}, Numbers.{number_of-decimal, numerals}}
-use Rattle.ptu_texts.specs.Texts.{address_text, clock_text}
-use Rattle.ptu_lines.proofs.Encoded.{encode_lower-append}
+use Rattle.ptu_lines.specs.{Texts.{address_text, clock_text}, Words.{address_of, clock_of, ip_of, number_within, octets_of, within}}
+use Rattle.ptu_lines.proofs.{DecimalDigits.{list_all-digits}, Encoded.{encode_lower-append}, Numbers.{number_of-decimal, numerals}}
 
 -- octets from `0` to `f`, among which the digits of both bases are
 abbrev pub AreGlyphs : List ℕ → Type 0

@@ -1,5 +1,5 @@
-use Rattle.ptu_texts.proofs.Read.{address_read, clock_read, octets_read}
-use Rattle.ptu_texts.proofs.laws.words_are_read_again.Goals as goal
+use Rattle.ptu_lines.proofs.Read.{address_read, clock_read, octets_read}
+use Rattle.ptu_lines.proofs.laws.words_are_read_again.Goals as goal
 
 pub returns-clause-address : goal.returns-clause-address
 returns-clause-address c = address_read

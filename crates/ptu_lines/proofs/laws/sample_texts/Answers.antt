@@ -1,7 +1,7 @@
 use Rattle.std.proofs.Common.{refl}
 use Rattle.std.specs.Fmt.{digits}
 use Rattle.hex.specs.Hex.{encode_with}
-use Rattle.ptu_texts.proofs.laws.sample_texts.Goals as goal
+use Rattle.ptu_lines.proofs.laws.sample_texts.Goals as goal
 
 pub returns-clause-names : goal.returns-clause-names
 unfolding digits encode_with

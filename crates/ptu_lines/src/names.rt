@@ -1,9 +1,9 @@
 //! Addresses, identities, kinds and logarithms.
 
 ghost use Rattle.std.specs.{Prelude.{◌≡◌, ◌≤◌, ◌+◌, ◌++◌, Some}, Fmt.{signed_decimal}};
-ghost use Rattle.ptu_texts.specs.Texts.{address_text, clock_text, identity_text, kind_text};
+ghost use Rattle.ptu_lines.specs.Texts.{address_text, clock_text, identity_text, kind_text};
 
-use ptu_lines::{LinePart, LineText};
+use crate::line::{LinePart, LineText};
 use ptu_messages::PortIdentity;
 use ptu_units::{Kind, Log};
 use std::fmt;
