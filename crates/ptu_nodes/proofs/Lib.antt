@@ -2,7 +2,6 @@ pub mod Noting
 pub mod HandedOver
 pub mod GrandmasterPorts
 pub mod Lengths
-pub mod Items
 pub mod ShedCounts
 pub mod Surely
 pub mod Rooms

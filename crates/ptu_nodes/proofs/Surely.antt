@@ -34,7 +34,7 @@ use Rattle.ptu_grandmaster.specs.Taking.{IsAnswerTo, OnAsked, OnDelay, OnIgnored
 use Rattle.ptu_nodes.specs.GrandmasterPorts.{HasReplyRoom, HasResponseRoom, HasRoom, HasRoomToAnswer}
 use Rattle.ptu_nodes.specs.GrandmasterStatements.{IsAnswerSent, IsReplySent, IsSent}
 use Rattle.ptu_nodes.specs.Standing.{AreSure}
-use Rattle.ptu_nodes.proofs.{GrandmasterPorts.{table_by, with_by}, Items.{AreFew}}
+use Rattle.ptu_nodes.proofs.{GrandmasterPorts.{table_by, with_by}, Rooms.{AreFew}}
 use Rattle.ptu_nodes.proofs.Lengths.{cancel_octets, cancels_many, each_of_turn, response_octets, signaling_octets}
 
 -- ---- the ports of a grandmaster

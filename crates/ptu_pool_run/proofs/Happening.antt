@@ -19,7 +19,7 @@ use Rattle.ptu_world.specs.{Deeds.{Grandmaster}, Grandmasters.{datagram_deed, tu
 use Rattle.ptu_nodes.specs.GrandmasterPorts.{HasReplyRoom, HasRoom, in_ports}
 use Rattle.ptu_nodes.specs.{GrandmasterStatements.{IsSent}, Standing.{AreIdle, AreSure, setup_config}}
 use Rattle.ptu_nodes.proofs.GrandmasterReceipts.{sends_heard, told_all}
-use Rattle.ptu_nodes.proofs.{GrandmasterTurns.{sends_turned}, Items.{few_heard}}
+use Rattle.ptu_nodes.proofs.{GrandmasterTurns.{sends_turned}, Rooms.{few_heard}}
 use Rattle.ptu_nodes.proofs.Surely.{room_for_one, surely_taken, surely_turned}
 use Rattle.ptu_pool_run.specs.declared.output.PoolLine.TheVariants as lines
 use Rattle.ptu_pool_run.specs.Output.{pool_line_text}
