@@ -6,6 +6,3 @@ pub mod ShedCounts
 pub mod Surely
 pub mod Rooms
 pub mod GrandmasterDone
-pub mod GrandmasterTurns
-pub mod GrandmasterChanges
-pub mod GrandmasterReceipts
