@@ -23,7 +23,7 @@ use Rattle.ptu_nodes.specs.declared.grandmaster_node.GrandmasterNode.{Grandmaste
 use Rattle.ptu_nodes.specs.Doing.{HasActed, HasDone}
 use Rattle.ptu_nodes.specs.Noted.{Noted, counted_on, with_deed, with_said}
 use Rattle.ptu_nodes.specs.Standing.{IsGrandmasterNode, StandsAsGrandmaster}
-use Rattle.ptu_nodes.proofs.Noting.{counted_granted, counted_short, deed_texts, on_counted}
+use Rattle.ptu_nodes.proofs.Noting.{counted_deed, deed_texts, on_counted}
 use Rattle.ptu_slave.specs.Seen.{Seen}
 use Rattle.ptu_lab.specs.declared.{slave_node.SlaveNode.{SlaveNode}, lab.Node.{Node}}
 use Rattle.ptu_lab.specs.declared.lab.Node.TheVariants as nodes
@@ -142,9 +142,9 @@ module _ {J B : Type 0} {I : J → Type 0} (see : SlaveNode J I → Seen MemoryP
       flags = sym (ap (λ (s : Stock). s.flags) left_is);
       gaps = sym (ap (λ (s : Stock). s.gaps) left_is);
       stock = stock;
-      granted = ap (λ (n : Noted). n.granted) done.noted ∙ (counted_granted ip deed lab.journal c.granted stands.granted
+      granted = ap (λ (n : Noted). n.granted) done.noted ∙ (counted_deed ip deed lab.journal is_granted (λ k x. refl) lab.journal.granted c.granted stands.granted
           ∙ ap (λ s. counted (c.granted + count_by is_granted (said_by s ip deed))) stands.sent);
-      short = ap (λ (n : Noted). n.short) done.noted ∙ (counted_short ip deed lab.journal c.short stands.short
+      short = ap (λ (n : Noted). n.short) done.noted ∙ (counted_deed ip deed lab.journal is_short (λ k x. refl) lab.journal.short c.short stands.short
           ∙ ap (λ s. counted (c.short + count_by is_short (said_by s ip deed))) stands.sent);
     },
     ap (λ (n : Noted). n.texts) done.noted ∙ (deed_texts ip deed lab.journal

@@ -8,7 +8,7 @@ use Rattle.ptu_outside.specs.Departure.{Departure}
 use Rattle.ptu_messages.specs.declared.header.{Header.{Header}, PortIdentity.{PortIdentity}}
 use Rattle.ptu_messages.specs.HeaderSent.{sent_header, sent_identity}
 use Rattle.ptu_messages.specs.declared.tlv.Tlv.{Tlv}
-use Rattle.ptu_messages.specs.declared.tlv.Tlv.TheVariants.{Request, Grant, Cancel, Ack, Other}
+use Rattle.ptu_messages.specs.declared.tlv.Tlv.TheVariants.{Cancel}
 use Rattle.ptu_messages.specs.TlvsSent.{sent_tlv}
 use Rattle.ptu_messages.specs.declared.message.Message.{Message as Timed}
 use Rattle.ptu_messages.specs.Sent.{octets_sent, sent_body}
