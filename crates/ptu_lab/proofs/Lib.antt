@@ -5,7 +5,5 @@ pub mod SlaveSends
 pub mod LabNodes
 pub mod LabCommands
 pub mod LabSettingUp
-pub mod LabStock
-pub mod LabMasters
 pub mod LabReplaying
 mod Room
