@@ -16,10 +16,10 @@ ghost use Rattle.ptu_world.specs.Slaves.{datagram_deed, plain_deed};
 ghost use Rattle.ptu_world.specs.World.{act_deed, new_slave, of_master, stock_after, stock_without};
 ghost use Rattle.ptu_world.specs.World.{with_master as described_with_master};
 ghost use Rattle.ptu_nodes.specs.{Doing.{HasActed, HasDone}, Noted.{with_handed, with_said}};
-ghost use Rattle.ptu_nodes.specs.Standing.{IsIdle};
+ghost use Rattle.ptu_nodes.specs.{GrandmasterPorts.{HasRoom}, Standing.{IsIdle}};
 ghost use Rattle.ptu_outside.specs.MemoryPort.{IsSure};
 ghost use Rattle.ptu_lab.specs.{NodeStanding.{IsNode, StandsAsNode}, SlaveStatements.{IsOfOne}};
-ghost use Rattle.ptu_lab.specs.SlaveWords.{HasConfig, HasRoom, HasSteppedTo, selection_by};
+ghost use Rattle.ptu_lab.specs.SlaveWords.{HasConfig, HasSteppedTo, selection_by};
 ghost use Rattle.ptu_lab.specs.Standing.{HasDoneAsSlave};
 ghost use Rattle.ptu_lab.specs.Steps.{HasActedLeaving, stock_of};
 
@@ -370,8 +370,7 @@ fn make_room(slave: &mut Slave<MemPort>, datagrams: usize, octets: usize) -> Res
         (seen_by held slave.old).port.sent }
     ensures listed { (seen_by held slave.new).port.failing_sends ≡
         (seen_by held slave.old).port.failing_sends }
-    ensures room { OnOk result (HasRoom (seen_by held slave.new).port
-        datagrams octets) }
+    ensures room { OnOk result (HasRoom datagrams octets (seen_by held slave.new).port) }
     ensures rest { seen_by held slave.new ≡ record
         (seen_by held slave.old)
         { port = (seen_by held slave.new).port } }

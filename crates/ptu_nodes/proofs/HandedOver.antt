@@ -1,7 +1,7 @@
 -- The datagrams of a port, one after the other.
 use Rattle.std.proofs.Common.{◌≡◌, ◌∙◌, ℕ, suc, ◌+◌, ◌-◌, ◌<◌, ◌≤◌, List, [], ◌∷◌, length, drop, map, sym, ap, add-one, arith, drop-cons, length-append, Some}
-use Rattle.std.specs.List.{slice_get}
-use Rattle.std.proofs.lemmas.{List.{drop_all, nil_from_length}, Option.{slice_get_within, get_or_from_slice_get}}
+use Rattle.std.{specs.List.{slice_get}, proofs.lemmas.List.{drop_all, nil_from_length}}
+use Rattle.std.proofs.lemmas.Option.{slice_get_within, get_or_from_slice_get}
 use Rattle.ptu_outside.specs.{Departure.{Departure}, MemoryPort.{MemoryPort}}
 use Rattle.ptu_report_lines.specs.declared.sent.Sent.{Sent}
 use Rattle.ptu_world.specs.World.{sent_from}

@@ -4,7 +4,7 @@ use Rattle.ptu_record.specs.Step.{Tick}
 use Rattle.ptu_record.proofs.Places.{all_places}
 use Rattle.ptu_profile.specs.Target.{all_ones}
 use Rattle.ptu_slave.specs.Seen.{seen}
-use Rattle.ptu_lab.proofs.{SlaveEvents.{plainly_stepped}, SlaveSends.{sure_tick}}
+use Rattle.ptu_lab.proofs.{SlaveEvents.{plainly_stepped}, SlaveSends.{within_tick}}
 use Rattle.ptu_lab.proofs.slave_node.tick.Goals as goal
 
 pub returns : goal.returns
@@ -13,4 +13,4 @@ returns g c = λ ip begun s h.
     let sends = c.tick.ensures.ticked.sends in
     plainly_stepped ip (seen (λ j. (goal.Judge-dyn g (j.vtable, j.value)).Judge.held j.value) c.args.slave.now) room (seen (λ j. (goal.Judge-dyn g (j.vtable, j.value)).Judge.held j.value) c.tick.new.self) begun s c.args.at c.tick.result.at _ 32 7552 Tick sends.0
     c.make_room.ensures.rest c.make_room.ensures.same c.make_room.ensures.listed c.in_ok-make_room.ensures.room h (λ m is. absurd (cc is)) (all_places (length (seen (λ j. (goal.Judge-dyn g (j.vtable, j.value)).Judge.held j.value) c.make_room.new.slave).kept.masters)) c.tick.ensures.same
-    c.tick.ensures.ticked.steps c.tick.ensures.ticked.at sends.2 (sure_tick room.kept.config room.kept.masters room.port all_ones) (hands_surely _ _ _ _ _ _ sends.1) (hands_whole _ _ _ _ _ _ sends.1)
+    c.tick.ensures.ticked.steps c.tick.ensures.ticked.at sends.2 (within_tick room.kept.config room.kept.masters all_ones) (hands_surely _ _ _ _ _ _ sends.1) (hands_whole _ _ _ _ _ _ sends.1)
