@@ -4,4 +4,3 @@ pub mod SlaveSends
 pub mod LabNodes
 pub mod LabSettingUp
 pub mod LabReplaying
-pub mod LabCommands
