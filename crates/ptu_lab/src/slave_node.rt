@@ -179,23 +179,28 @@ impl SlaveNode {
         self.conclude(at, journal)
     }
 
-    // A tick.
+    // A tick, with room for all that it may send.
     fn tick(&mut self, at: Moment, journal: &mut Journal) -> Result<(), OutOfMemory>
+        requires moment { at < 2 ^ 62 }
         ensures ip { self.new.ip ≡ self.old.ip }
         ensures done { OnOk result (HasDoneAsSlave held self.old self.new
             (λ s. plain_deed s at Tick) journal.old journal.new) }
     {
-        tick(&mut self.slave, at)?;
+        let octets = MASTERS * (LONGEST_SIGNALING + SYNC_LENGTH);
+        make_room(&mut self.slave, 2 * MASTERS, octets)?;
+        self.slave.tick(at);
         self.conclude(at, journal)
     }
 
-    // The stop.
+    // The stop, with room for all that it may send.
     fn stop(&mut self, at: Moment, journal: &mut Journal) -> Result<(), OutOfMemory>
+        requires moment { at < 2 ^ 62 }
         ensures ip { self.new.ip ≡ self.old.ip }
         ensures done { OnOk result (HasDoneAsSlave held self.old self.new
             (λ s. plain_deed s at Stop) journal.old journal.new) }
     {
-        stop(&mut self.slave, at)?;
+        make_room(&mut self.slave, MASTERS, MASTERS * LONGEST_SIGNALING)?;
+        self.slave.stop(at);
         self.conclude(at, journal)
     }
 
@@ -401,33 +406,6 @@ fn take(
 {
     make_room(slave, 1, LONGEST_SIGNALING)?;
     slave.take(alloc, at, from, octets)
-}
-
-// The slave ticks, with room for all that it may send.
-fn tick(slave: &mut Slave<MemPort>, at: Moment) -> Result<(), OutOfMemory>
-    requires moment { at < 2 ^ 62 }
-    ensures { OnOk result ((ip : ℕ) (begun : Bool) (s : Described) →
-        IsNode ip (seen_by held slave.old) begun s →
-        HasSteppedTo ip (seen_by held slave.new) s
-        (node.deed s.opened s.taken at Tick)) }
-{
-    let octets = MASTERS * (LONGEST_SIGNALING + SYNC_LENGTH);
-    make_room(slave, 2 * MASTERS, octets)?;
-    slave.tick(at);
-    Ok(())
-}
-
-// The slave stops, with room for all that it may send.
-fn stop(slave: &mut Slave<MemPort>, at: Moment) -> Result<(), OutOfMemory>
-    requires moment { at < 2 ^ 62 }
-    ensures { OnOk result ((ip : ℕ) (begun : Bool) (s : Described) →
-        IsNode ip (seen_by held slave.old) begun s →
-        HasSteppedTo ip (seen_by held slave.new) s
-        (node.deed s.opened s.taken at Stop)) }
-{
-    make_room(slave, MASTERS, MASTERS * LONGEST_SIGNALING)?;
-    slave.stop(at);
-    Ok(())
 }
 
 // The address of the master that a slave selects.
