@@ -5,7 +5,7 @@ ghost use Rattle.std.specs.Prelude.{◌≡◌, ◌<◌, ◌≤◌, ◌^◌, ℕ,
 ghost use Rattle.std.specs.Prelude.{map, Option, None, Some, IfOk, OnOk};
 ghost use Rattle.ptu_record.specs.{declared.rule.Rule.{Rule}, Record.{Record}};
 ghost use Rattle.ptu_record.specs.Step.{ReplaceJudge, Stop, TellFlag, Tick};
-ghost use Rattle.ptu_judges.specs.Held.{IsStock, fresh};
+ghost use Rattle.ptu_judges.specs.Held.{fresh};
 ghost use Rattle.ptu_profile.specs.Slave.{place_of};
 ghost use Rattle.ptu_slave_messages.specs.Node as node;
 ghost use Rattle.ptu_slave_messages.specs.Node.{datagram_heard};
@@ -20,7 +20,7 @@ ghost use Rattle.ptu_nodes.specs.{GrandmasterPorts.{HasRoom}, Standing.{IsIdle}}
 ghost use Rattle.ptu_outside.specs.MemoryPort.{IsSure};
 ghost use Rattle.ptu_lab.specs.{NodeStanding.{IsNode, StandsAsNode}, SlaveStatements.{IsOfOne}};
 ghost use Rattle.ptu_lab.specs.SlaveWords.{HasConfig, HasSteppedTo, selection_by};
-ghost use Rattle.ptu_lab.specs.Standing.{HasDoneAsSlave};
+ghost use Rattle.ptu_lab.specs.Standing.{HasDoneAsSlave, IsReserve};
 ghost use Rattle.ptu_lab.specs.Steps.{HasActedLeaving, stock_of};
 
 use crate::slave_statements::{say_heard, was_ignored};
@@ -127,8 +127,7 @@ impl SlaveNode {
         stock: &mut Reserve,
         journal: &mut Journal,
     ) -> Stepped<Cause>
-        requires stock { IsStock (map held stock.old.flags.items)
-            (map held stock.old.gaps.items) }
+        requires stock { IsReserve held stock.old }
         requires within { IsActWithin act }
         ensures ip { self.new.ip ≡ self.old.ip }
         ensures acted { IfOk result (λ refused. (begun : Bool) (s : Described) →
@@ -254,8 +253,7 @@ impl SlaveNode {
         stock: &mut Reserve,
         journal: &mut Journal,
     ) -> Stepped<Cause>
-        requires stock { IsStock (map held stock.old.flags.items)
-            (map held stock.old.gaps.items) }
+        requires stock { IsReserve held stock.old }
         requires named { IsNamed rule }
         ensures ip { self.new.ip ≡ self.old.ip }
         ensures acted { IfOk result (λ refused. (begun : Bool) (s : Described) →
