@@ -15,8 +15,8 @@ ghost use Rattle.ptu_world.specs.Deeds.{IsSlave, Slave as Described};
 ghost use Rattle.ptu_world.specs.Slaves.{datagram_deed, plain_deed};
 ghost use Rattle.ptu_world.specs.World.{act_deed, new_slave, of_master, stock_after, stock_without};
 ghost use Rattle.ptu_world.specs.World.{with_master as described_with_master};
-ghost use Rattle.ptu_nodes.specs.{Doing.{HasActed, HasDone}, Noted.{with_handed, with_said}};
-ghost use Rattle.ptu_nodes.specs.{GrandmasterPorts.{HasRoom}, Standing.{IsIdle}};
+ghost use Rattle.ptu_nodes.specs.{Doing.{HasActed}, GrandmasterPorts.{HasRoom}, Standing.{IsIdle}};
+ghost use Rattle.ptu_nodes.specs.Noted.{with_handed, with_said};
 ghost use Rattle.ptu_outside.specs.MemoryPort.{IsSure};
 ghost use Rattle.ptu_lab.specs.{NodeStanding.{IsNode, StandsAsNode}, SlaveStatements.{IsOfOne}};
 ghost use Rattle.ptu_lab.specs.SlaveWords.{HasConfig, HasSteppedTo, selection_by};
@@ -271,30 +271,9 @@ impl SlaveNode {
         let Some(judge) = take_judge(stock, rule) else {
             return Ok(Some(Cause::Stock));
         };
-        self.set_judge(at, place, judge, journal)?;
+        self.slave.set_judge(at, place, judge);
+        self.say_selected(at, journal)?;
         Ok(None)
-    }
-
-    // Another judge takes over the master at a place.
-    fn set_judge(
-        &mut self,
-        at: Moment,
-        master: usize,
-        judge: Box<dyn Judge>,
-        journal: &mut Journal,
-    ) -> Result<(), OutOfMemory>
-        requires place { master < length (seen held self.old.slave).kept.masters }
-        requires fresh { (rule : Rule) × (held judge ≡ fresh rule) }
-        ensures ip { self.new.ip ≡ self.old.ip }
-        ensures done { OnOk result ((begun : Bool) (s : Described) (rule : Rule) →
-            held judge ≡ fresh rule →
-            IsNode self.old.ip (seen held self.old.slave) begun s →
-            HasDone (StandsAsNode self.new.ip (seen held self.new.slave) true)
-            self.old.ip (plain_deed s at (ReplaceJudge master (Some rule))) journal.old
-            journal.new) }
-    {
-        self.slave.set_judge(at, master, judge);
-        self.say_selected(at, journal)
     }
 
     // Hands over what the slave sent, and says what it selects.
