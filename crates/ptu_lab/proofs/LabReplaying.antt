@@ -13,15 +13,13 @@ use Rattle.ptu_outside.specs.{Handing.{HasPut}, MemoryPort.{MemoryPort}}
 use Rattle.ptu_units.{specs.Counts.{counted}, proofs.Counts.{counted-whole}}
 use Rattle.ptu_script.specs.declared.cause.Cause.{Cause}
 use Rattle.ptu_slave.specs.Seen.{Seen}
-use Rattle.ptu_world.specs.Facts.{AreCounted, EndsBy, world_of}
-use Rattle.ptu_world.specs.World.{Stock, no_judges, node_at}
+use Rattle.ptu_world.specs.{Facts.{AreCounted, EndsBy, world_of}, World.{Stock, no_judges, node_at}}
 use Rattle.ptu_world.specs.Report.{Course, course_opening, granted_count, report, report_lines, rules, short_count}
 use Rattle.ptu_world.proofs.Reported.{counts_of_rules, ends_of_rules, texts_of_rules}
 use Rattle.ptu_world.proofs.Headline.{decides_by_room, numbers_datagrams, pays_periods, records_deliveries, records_events, says_so, selects_best, sends_in_time, serves_each_client, signals_answers, within_budget, within_capacity}
-use Rattle.ptu_lab.specs.declared.{done.Done.{Done}, lab.Lab.{Lab}}
+use Rattle.ptu_lab.specs.{declared.{done.Done.{Done}, lab.Lab.{Lab}}, Headline.{KeepsHeadline}}
 use Rattle.ptu_lab.specs.{declared.slave_node.SlaveNode.{SlaveNode}, Standing.{Agrees, StandsFor}}
 use Rattle.ptu_lab.specs.{Replayed.{AreCounts, HasReplayed, IfReplayed}, Load.{numbers_of}}
-use Rattle.ptu_lab.specs.Headline.{KeepsHeadline}
 use Rattle.ptu_report_lines.specs.declared.report_line.ReportLine.{ReportLine}
 use Rattle.ptu_report_lines.specs.declared.report_line.ReportLine.TheVariants.{At, End}
 use Rattle.ptu_report_lines.specs.declared.statement.Statement.TheVariants.{Bad}

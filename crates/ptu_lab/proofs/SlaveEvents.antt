@@ -7,20 +7,18 @@ use Rattle.ptu_outside.specs.{Departure.{Departure}, declared.reply.Reply.{Reply
 use Rattle.ptu_outside.specs.MemoryPort.{IsSure, MemoryPort, departure_octets}
 use Rattle.ptu_outside.specs.declared.reply.Reply.TheVariants.{Sent, Failed, Nothing}
 use Rattle.ptu_outside.specs.Replies.{reply_failed, reply_sent}
-use Rattle.ptu_record.specs.{declared.rule.Rule.{Rule}, Record.{Record, event_moment}}
-use Rattle.ptu_record.specs.{Selection.{selected_master}, Tick.{Sending}}
 use Rattle.ptu_record.specs.Step.{ReplaceJudge, SlaveEvent, SlaveSetup, judged_masters, sendings, slave_step, one_reply}
-use Rattle.ptu_record.specs.declared.wants.Wants.{Wants}
+use Rattle.ptu_record.specs.{Record.{Record, event_moment}, declared.wants.Wants.{Wants}}
+use Rattle.ptu_record.specs.{Selection.{selected_master}, declared.rule.Rule.{Rule}, Tick.{Sending}}
 use Rattle.ptu_judges.specs.Held.{Held, fresh}
 use Rattle.ptu_profile.specs.declared.slave.{Master.{Master}, SlaveConfig.{SlaveConfig}}
 use Rattle.ptu_profile.specs.Slave.{AreMasters, address_of, priorities, timeouts}
 use Rattle.ptu_profile.specs.Target.{all_ones}
 use Rattle.ptu_slave_messages.specs.Node.{Deed, deed, node_setup, Node, datagram_deed, datagram_heard, reception_deed, reception_heard}
-use Rattle.ptu_slave_messages.specs.{Sending.{sending_departure}, declared.heard.Heard.{Heard}}
-use Rattle.ptu_slave_messages.specs.declared.reason.SlaveReason.{SlaveReason}
 use Rattle.ptu_slave_messages.specs.Heard.{answer_of, event_of, heard_of, replies_in, replies_to, reply_by, reply_in}
-use Rattle.ptu_slave_messages.specs.Reception.{reception}
 use Rattle.ptu_slave_messages.proofs.Senders.{judged_within, no_judge, taken_within}
+use Rattle.ptu_slave_messages.specs.declared.{reason.SlaveReason.{SlaveReason}, heard.Heard.{Heard}}
+use Rattle.ptu_slave_messages.specs.{Sending.{sending_departure}, Reception.{reception}}
 use Rattle.ptu_slave_messages.specs.declared.heard.Heard.TheVariants as heard
 use Rattle.ptu_slave.specs.{Kept.{IsSame, Kept}, Seen.{Seen}, Standing.{StandsFor, Steps, setup_of}}
 use Rattle.ptu_slave.proofs.{Ruled.{ruled_step}, Staying.{rules_stay}, Stepping.{moment_is}}

@@ -8,8 +8,7 @@ use Rattle.ptu_units.proofs.Keys.{eq-eqb-self}
 use Rattle.ptu_outside.specs.MemoryPort.{IsSure, MemoryPort}
 use Rattle.ptu_record.specs.declared.rule.Rule.{Rule}
 use Rattle.ptu_judges.specs.Held.{Held, IsFresh, fresh}
-use Rattle.ptu_profile.specs.declared.slave.Master.{Master}
-use Rattle.ptu_profile.specs.Slave.{AreMasters, place_of}
+use Rattle.ptu_profile.specs.{declared.slave.Master.{Master}, Slave.{AreMasters, place_of}}
 use Rattle.ptu_slave.specs.{Kept.{Kept}, Standing.{StandsFor}}
 use Rattle.ptu_world.specs.{Deeds.{Slave}, World.{with_master}}
 use Rattle.ptu_lab.specs.NodeStanding.{IsSlaveNode}

@@ -6,30 +6,26 @@ use Rattle.std.specs.List.{cons_option, filter, filter_map, flat_map, list_any}
 use Rattle.std.specs.Prelude.{Result, is_some}
 use Rattle.ptu_units.specs.{declared.kind.Kind.{Kind}, Kind.{kinds}}
 use Rattle.ptu_messages.specs.declared.header.{Header.{Header}, PortIdentity.{PortIdentity}}
-use Rattle.ptu_messages.specs.declared.tlv.Tlv.{Tlv}
+use Rattle.ptu_messages.specs.declared.{tlv.Tlv.{Tlv}, message.Message.{Message}}
 use Rattle.ptu_messages.specs.declared.tlv.Tlv.TheVariants as tlv
 use Rattle.ptu_messages.specs.declared.{fault.MessageFault.{MessageFault}, message.Body.{Body}}
 use Rattle.ptu_messages.specs.declared.message.Body.TheVariants as body
-use Rattle.ptu_messages.specs.declared.message.Message.{Message}
 use Rattle.ptu_messages.specs.{Message.{SpellsBody, SpellsMessage}, Reading.{message_in}}
-use Rattle.ptu_messages.specs.Sent.{octets_sent, signaling}
-use Rattle.ptu_messages.proofs.Readings.{found_is}
+use Rattle.ptu_messages.{specs.Sent.{octets_sent, signaling}, proofs.Readings.{found_is}}
 use Rattle.ptu_outside.specs.{Departure.{Departure}, MemoryPort.{IsSure, MemoryPort, departure_octets}}
 use Rattle.ptu_outside.proofs.Sure.{sure_within}
 use Rattle.ptu_record.specs.{declared.wants.Wants.{Wants}, Lists.{places}}
 use Rattle.ptu_record.specs.{Record.{Record, record_of}, Asks.{due_kinds, is_due}}
-use Rattle.ptu_record.specs.Grants.{is_live, live_kinds}
+use Rattle.ptu_record.specs.{Grants.{is_live, live_kinds}, Wants.{wanted_kinds, wanted_log}}
 use Rattle.ptu_record.specs.Step.{SlaveSetup, Stop, Tick, cancel_code, one_reply, sendings}
 use Rattle.ptu_record.specs.Tick.{Acknowledgements, Cancels, DelayReq, Requests, Sending, cancels_to, delay_req_number, is_probe_due, is_stop, one_signaling, requests_to, signaling_number}
-use Rattle.ptu_record.specs.Wants.{wanted_kinds, wanted_log}
 use Rattle.ptu_profile.specs.declared.slave.{Master.{Master}, SlaveConfig.{SlaveConfig}}
 use Rattle.ptu_profile.specs.Slave.{slave_header}
 use Rattle.ptu_slave_messages.specs.declared.reason.SlaveReason.{SlaveReason}
 use Rattle.ptu_slave_messages.specs.Heard.{replies_in, replies_to, said_by}
 use Rattle.ptu_slave_messages.specs.Reception.{beside, of_reading, reception, sender_of}
 use Rattle.ptu_slave_messages.specs.Sending.{cancel_of, sending_departure, message_of, request_of}
-use Rattle.ptu_nodes.specs.GrandmasterPorts.{HasRoom}
-use Rattle.ptu_nodes.proofs.Lengths.{signaling_length}
+use Rattle.ptu_nodes.{specs.GrandmasterPorts.{HasRoom}, proofs.Lengths.{signaling_length}}
 
 -- ---- counts
 

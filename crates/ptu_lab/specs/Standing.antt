@@ -8,15 +8,13 @@ use Rattle.ptu_judges.specs.Held.{Held, IsStock}
 use Rattle.ptu_slave.specs.{Seen.{Seen, seen}, SeenBy.{seen_by}}
 use Rattle.ptu_script.specs.declared.{cause.Cause.{Cause}, command.Command.{Command}}
 use Rattle.ptu_world.specs.Deeds as world
-use Rattle.ptu_world.specs.World.{node_at}
+use Rattle.ptu_world.specs.{World.{node_at}, Report.{Course}}
 use Rattle.ptu_units.specs.Counts.{counted}
-use Rattle.ptu_world.specs.Report.{Course}
-use Rattle.ptu_lab.specs.declared.slave_node.SlaveNode.{SlaveNode}
+use Rattle.ptu_lab.specs.declared.{slave_node.SlaveNode.{SlaveNode}, lab.Node.{Node}}
 use Rattle.ptu_lab.specs.{NodeStanding.{IsNode, StandsAsNode}, Steps.{HasNone, HasStepped, HasTaken}}
 use Rattle.ptu_nodes.specs.{Doing.{HasDone}, Noted.{Noted}, Standing.{StandsAsGrandmaster}}
-use Rattle.ptu_lab.specs.declared.lab.Node.{Node}
-use Rattle.ptu_lab.specs.declared.lab.Node.TheVariants as nodes
 use Rattle.ptu_lab.specs.declared.{lab.Lab.{Lab}, stock.Reserve.{Reserve}}
+use Rattle.ptu_lab.specs.declared.lab.Node.TheVariants as nodes
 
 -- what is seen of a slave is handed over as a function
 

@@ -4,8 +4,7 @@ use Rattle.ptu_outside.specs.MemoryPort.{MemoryPort}
 use Rattle.ptu_shard.specs.Table.{Kept}
 use Rattle.ptu_grandmaster.specs.Gm.{KeptGm, port_at, with_port}
 use Rattle.ptu_nodes.specs.{GrandmasterPorts.{GoesOn, in_ports}, Noted.{Noted, with_handed}}
-use Rattle.ptu_nodes.specs.Standing.{IsIdle, IsUnfailing}
-use Rattle.ptu_nodes.proofs.Noting.{handed_more}
+use Rattle.ptu_nodes.{specs.Standing.{IsIdle, IsUnfailing}, proofs.Noting.{handed_more}}
 
 -- ---- a port is lent
 

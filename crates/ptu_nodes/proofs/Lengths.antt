@@ -1,15 +1,12 @@
 -- How many octets the messages of a grandmaster have.
 use Rattle.std.proofs.Common.{◌≡◌, ◌∙◌, ℕ, ◌+◌, ◌*◌, ◌%◌, ◌≤◌, List, [], ◌∷◌, ◌++◌, length, map, refl, ap, arith, length-append}
 use Rattle.std.specs.List.{AllByRecursion, flat_map}
-use Rattle.ptu_units.specs.declared.{client.Client.{Client}, kind.Kind.{Kind}}
+use Rattle.ptu_units.specs.{declared.{client.Client.{Client}, kind.Kind.{Kind}}, Kind.{code_of}}
 use Rattle.ptu_units.specs.declared.kind.Kind.TheVariants as kinds
-use Rattle.ptu_units.specs.Kind.{code_of}
 use Rattle.ptu_outside.specs.Departure.{Departure}
 use Rattle.ptu_messages.specs.declared.header.{Header.{Header}, PortIdentity.{PortIdentity}}
-use Rattle.ptu_messages.specs.HeaderSent.{sent_header, sent_identity}
-use Rattle.ptu_messages.specs.declared.tlv.Tlv.{Tlv}
-use Rattle.ptu_messages.specs.declared.tlv.Tlv.TheVariants.{Cancel}
-use Rattle.ptu_messages.specs.TlvsSent.{sent_tlv}
+use Rattle.ptu_messages.specs.{HeaderSent.{sent_header, sent_identity}, declared.tlv.Tlv.{Tlv}}
+use Rattle.ptu_messages.specs.{declared.tlv.Tlv.TheVariants.{Cancel}, TlvsSent.{sent_tlv}}
 use Rattle.ptu_messages.specs.declared.message.Message.{Message as Timed}
 use Rattle.ptu_messages.specs.Sent.{octets_sent, sent_body, signaling}
 use Rattle.ptu_messages.proofs.Sending.{length-sent_tlv-le}

@@ -11,10 +11,9 @@ use Rattle.ptu_messages.proofs.Readings.{found_is}
 use Rattle.ptu_profile.specs.{declared.grandmaster.GmConfig.{GmConfig}, Target.{is_target}}
 use Rattle.ptu_gm_messages.specs.declared.{heard.Heard.{Heard}, item.Item.{Item}}
 use Rattle.ptu_gm_messages.specs.declared.heard.Heard.TheVariants as heard
-use Rattle.ptu_gm_messages.specs.declared.reason.GmReason.{GmReason}
+use Rattle.ptu_gm_messages.{specs.declared.reason.GmReason.{GmReason}, proofs.Octets.{few_among}}
 use Rattle.ptu_gm_messages.specs.declared.reason.GmReason.TheVariants as reasons
 use Rattle.ptu_gm_messages.specs.Items.{heard_by, heard_in, items_among, of_message, with_items}
-use Rattle.ptu_gm_messages.proofs.Octets.{few_among}
 use Rattle.ptu_grandmaster.specs.Gm.{KeptGm}
 use Rattle.ptu_nodes.specs.GrandmasterPorts.{HasRoom, HasResponseRoom, HasRoomToAnswer}
 

@@ -1,30 +1,24 @@
 -- A change of capacity sheds at most as many grants as there are rows.
 use Rattle.std.proofs.Common.{◌≡◌, inl, ℕ, zero, suc, ◌+◌, ◌<◌, ◌≤◌, List, [], ◌∷◌, ◌++◌, not, length, map, refl, sym, ap, subst, arith, length-append}
-use Rattle.std.specs.List.{Contains, filter}
-use Rattle.std.proofs.lemmas.List.{length-map, Filters.{length-filter_both}}
+use Rattle.std.{specs.List.{Contains, filter}, proofs.lemmas.List.Sorted.{length_permutation}}
+use Rattle.std.proofs.lemmas.{List.{length-map}, List.Filters.{length-filter_both}}
 use Rattle.std.proofs.lemmas.List.Elements.{Contains-append_left, Contains-append_right}
-use Rattle.std.proofs.lemmas.List.Sorted.{length_permutation}
-use Rattle.ptu_units.specs.declared.kind.Kind.{Kind}
+use Rattle.ptu_units.specs.{declared.{kind.Kind.{Kind}, client.Client.{Client}}, Client.{table_of}}
 use Rattle.ptu_outside.specs.MemoryPort.{MemoryPort}
-use Rattle.ptu_units.specs.{declared.client.Client.{Client}, Client.{table_of}}
-use Rattle.ptu_history.specs.{Core.{book_step_moment}, History.{Record}}
+use Rattle.ptu_units.proofs.Keys.{same_lease-refl}
+use Rattle.ptu_history.{specs.{Core.{book_step_moment}, History.{Record}}, proofs.Members.{Differ}}
 use Rattle.ptu_history.specs.Live.{Grant, IsLastDecision, is_of, live_grants, without}
 use Rattle.ptu_history.specs.{Moments.{book_moment}, Order.{in_order}}
 use Rattle.ptu_history.specs.Shedding.{shed_cmp, shed_grants, shed_order, shed_prefix}
-use Rattle.ptu_units.proofs.Keys.{same_lease-refl}
-use Rattle.ptu_history.proofs.Members.{Differ}
-use Rattle.ptu_history.proofs.Moments.{book_step_moment-bounds}
+use Rattle.ptu_history.proofs.{Moments.{book_step_moment-bounds}, Standing.{Contains-filter}}
 use Rattle.ptu_history.proofs.Order.{IsPermutation-in_order, shed_prefix-rest}
 use Rattle.ptu_history.proofs.{Orders.{live_distinct, live_members}, Rates.{table_below}}
-use Rattle.ptu_history.proofs.Standing.{Contains-filter}
 use Rattle.ptu_history.proofs.Unique.{Apart, Apart-from_pairs, Contains-first, Contains-later}
 use Rattle.ptu_shard.specs.{declared.lease.Row.{Row}, Table.{StandsAt}}
 use Rattle.ptu_admit.specs.{declared.shed_list.Shed.{Shed}, Newest.{grant_of}, Rows.{live_rows}}
-use Rattle.ptu_admit.specs.Shed.{shed_of}
-use Rattle.ptu_admit.proofs.Grants.{row_of_live}
-use Rattle.ptu_shard.proofs.SoFar.{length-filter-le}
-use Rattle.ptu_shard.proofs.Standing.{is_live_row}
+use Rattle.ptu_admit.{specs.Shed.{shed_of}, proofs.Grants.{row_of_live}}
 use Rattle.ptu_admit.proofs.Sums.{Contains-map, IsMapped}
+use Rattle.ptu_shard.proofs.{SoFar.{length-filter-le}, Standing.{is_live_row}}
 use Rattle.ptu_grandmaster.specs.{Changed.{AreShedAt, leases_shed}, Gm.{KeptGm, StandsFor}}
 use Rattle.ptu_nodes.specs.GrandmasterPorts.{rows_kept}
 

@@ -2,31 +2,26 @@
 use Rattle.std.proofs.Common.{◌≡◌, ◌∙◌, ℕ, ◌*◌, ◌<◌, ◌≤◌, ◌==◌, List, [], ◌∷◌, Bool, true, false, cond, length, map, refl, sym, ap, subst, arith, Result, Ok, Err}
 use Rattle.std.specs.List.{filter}
 use Rattle.std.proofs.lemmas.{Bool.{ne_eqb}, List.{length-map}, List.Sorted.{length_permutation}}
-use Rattle.ptu_units.specs.declared.kind.Kind.{Kind}
+use Rattle.ptu_units.specs.{declared.{kind.Kind.{Kind}, client.Client.{Client}}, Client.{table_of}}
 use Rattle.ptu_outside.specs.{Departure.{Departure}, declared.port.Port.{Ghosts as Ports}}
 use Rattle.ptu_outside.specs.{HandsOver.{HandsOver}, MemoryPort.{IsSure, MemoryPort}}
 use Rattle.ptu_outside.proofs.{HandsOver.{hands_surely}, Sure.{octets_within, sure_within}}
 use Rattle.ptu_messages.specs.declared.header.Header.{Header}
-use Rattle.ptu_units.specs.{declared.client.Client.{Client}, Client.{table_of}}
 use Rattle.ptu_history.specs.Events as step
-use Rattle.ptu_history.specs.Events.{Answer}
-use Rattle.ptu_history.proofs.Order.{IsPermutation-in_order}
-use Rattle.ptu_shard.specs.declared.answered.Answered.{Answered}
+use Rattle.ptu_history.{specs.Events.{Answer}, proofs.Order.{IsPermutation-in_order}}
+use Rattle.ptu_shard.specs.{declared.{answered.Answered.{Answered}, lease.Row.{Row}}, Table.{Kept}}
 use Rattle.ptu_shard.specs.declared.answered.Answered.TheVariants as answers
 use Rattle.ptu_profile.specs.declared.grandmaster.GmConfig.{GmConfig}
-use Rattle.ptu_shard.specs.declared.lease.Row.{Row}
 use Rattle.ptu_shard.specs.Answered.{failed_by, met_by, moment_of_answer, responses, sent_by}
-use Rattle.ptu_shard.specs.{Messages.{departure_of, response_of}, Table.{Kept}}
+use Rattle.ptu_shard.{specs.Messages.{departure_of, response_of}, proofs.SoFar.{length-filter-le}}
 use Rattle.ptu_shard.specs.Turn.{due_messages, due_rows, is_due_row, message_of_row, row_cmp}
-use Rattle.ptu_shard.proofs.SoFar.{length-filter-le}
 use Rattle.ptu_gm_messages.specs.declared.heard.Heard.{Heard}
 use Rattle.ptu_gm_messages.specs.declared.heard.Heard.TheVariants as heard
 use Rattle.ptu_gm_messages.specs.declared.{item.Item.{Item}, reason.GmReason.{GmReason}}
 use Rattle.ptu_gm_messages.specs.{Deciding.{answer_to, client_of}, Replies.{cancels_to, reply_to}}
-use Rattle.ptu_grandmaster.specs.declared.outcome.Outcome.{Outcome}
+use Rattle.ptu_grandmaster.specs.declared.outcome.{Outcome.{Outcome}, Taken.{Taken}}
 use Rattle.ptu_outside.specs.declared.reply.Reply.{Reply}
 use Rattle.ptu_outside.specs.declared.reply.Reply.TheVariants as sending
-use Rattle.ptu_grandmaster.specs.declared.outcome.Taken.{Taken}
 use Rattle.ptu_grandmaster.specs.declared.outcome.Taken.TheVariants.{Ignored, Delay, Asked}
 use Rattle.ptu_grandmaster.specs.Gm.{KeptGm, port_at, table_at, with_port, with_table}
 use Rattle.ptu_grandmaster.specs.Outcomes.{answers_seen, decision_seen, decisions_seen, item_seen}

@@ -1,9 +1,8 @@
 use Rattle.std.proofs.{Common.{ap, length, refl, subst}, lemmas.Result.{IfOk-weaker}}
 use Rattle.ptu_outside.proofs.HandsOver.{hands_surely, hands_whole}
 use Rattle.ptu_slave.specs.Seen.{Seen, seen}
-use Rattle.ptu_lab.specs.SlaveStatements.{IsOfOne}
+use Rattle.ptu_lab.{specs.SlaveStatements.{IsOfOne}, proofs.SlaveSends.{sure_answer}}
 use Rattle.ptu_lab.proofs.SlaveEvents.{answer_within, datagram_stepped, heard_datagram, of_answer, roomed}
-use Rattle.ptu_lab.proofs.SlaveSends.{sure_answer}
 use Rattle.ptu_lab.proofs.slave_node.take.Goals as goal
 
 pub returns-clause-one : goal.returns-clause-one
