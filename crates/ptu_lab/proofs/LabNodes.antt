@@ -9,34 +9,45 @@ use Rattle.ptu_report_lines.specs.declared.statement.Statement.TheVariants as st
 use Rattle.ptu_record.specs.declared.rule.Rule.{Rule}
 use Rattle.ptu_profile.specs.Slave.{place_of}
 use Rattle.ptu_report.specs.Rules.{IsOutcome}
-use Rattle.ptu_script.specs.{declared.cause.Cause.{Cause}}
+use Rattle.ptu_script.specs.{declared.{act.Act.{Act}, cause.Cause.{Cause}}, Fields.{◌>>=◌}}
+use Rattle.ptu_script.specs.Limits.{IsActWithin, IsCommandInRange}
 use Rattle.ptu_script.specs.declared.cause.Cause.TheVariants as causes
-use Rattle.ptu_script.specs.declared.act.Act.{Act}
 use Rattle.ptu_script.specs.declared.act.Act.TheVariants as acts
 use Rattle.ptu_script.specs.declared.command.Command.TheVariants as commands
-use Rattle.ptu_world.specs.Deeds as world
-use Rattle.ptu_world.specs.Deeds.{Deed}
-use Rattle.ptu_world.specs.World.{Nodes, Stock, act_deed, datagram_numbered, delivered_to, done_by, node_at, of_master, placed, said_by, sent_from, step, stock_after, stock_without}
-use Rattle.ptu_world.proofs.Acting.{after_acted, at_found, event_found}
+use Rattle.ptu_world.{specs.Deeds.{Deed}, proofs.Acting.{after_acted, at_found, event_found}}
+use Rattle.ptu_world.specs.World.{Nodes, Stock, World, act_deed, datagram_deed, datagram_numbered, delivered_to, done_by, node_at, of_master, or_cause, placed, said_by, sent_from, step, stock_after, stock_without}
 use Rattle.ptu_world.specs.Report.{Course, course_after, is_granted, is_short, outcome_by, text_at}
+use Rattle.ptu_world.specs.Deeds as world
 use Rattle.ptu_nodes.specs.declared.grandmaster_node.GrandmasterNode.{GrandmasterNode}
 use Rattle.ptu_nodes.specs.Doing.{HasActed, HasDone}
 use Rattle.ptu_nodes.specs.Noted.{Noted, counted_on, with_deed, with_said}
 use Rattle.ptu_nodes.specs.Standing.{IsGrandmasterNode, StandsAsGrandmaster}
-use Rattle.ptu_nodes.proofs.Noting.{counted_granted, counted_short, deed_texts, on_counted}
+use Rattle.ptu_nodes.proofs.Noting.{counted_deed, deed_texts, on_counted}
 use Rattle.ptu_slave.specs.Seen.{Seen}
-use Rattle.ptu_lab.specs.declared.{slave_node.SlaveNode.{SlaveNode}, lab.Node.{Node}}
-use Rattle.ptu_lab.specs.declared.lab.Node.TheVariants as nodes
-use Rattle.ptu_lab.specs.declared.lab.Lab.{Lab}
-use Rattle.ptu_lab.specs.NodeStanding.{IsNode, StandsAsNode}
+use Rattle.ptu_lab.specs.declared.{slave_node.SlaveNode.{SlaveNode}, lab.{Node.{Node}, Lab.{Lab}}}
+use Rattle.ptu_lab.{specs.NodeStanding.{IsNode, StandsAsNode}, proofs.SlaveEvents.{at_port}}
 use Rattle.ptu_lab.specs.Standing.{Agrees, StandsAs, StandsFor}
 use Rattle.ptu_lab.specs.Steps.{HasActedLeaving, HasTaken, stock_of}
-use Rattle.ptu_lab.proofs.LabCommands.{deliver_is}
+use Rattle.ptu_lab.specs.declared.lab.Node.TheVariants as nodes
 
--- what follows from a fact on what was answered
-pub ok_also : {A E : Type 0} (r : Result A E) (P Q : A → Type 0) → IfOk r P → ((x : A) → P x → Q x) → IfOk r Q
-ok_also (Ok x) P Q p also = also x p
-ok_also (Err e) P Q p also = tt
+-- what a line tells a node is within its limits
+pub act_within : (at node : ℕ) (act : Act) → IsCommandInRange (commands.Event at node act) → IsActWithin act
+act_within at node (acts.Receive from octets) within = tt
+act_within at node _ within = within
+
+-- ---- a datagram that was sent is delivered
+
+-- to the node of its address, as one that it takes
+pub deliver_is : (w : World) (t number : ℕ) (sent : Sent) → datagram_numbered number w.sent ≡ Some sent → is_some (node_at w.nodes sent.to) ≡ true
+    → step w (commands.Deliver t number) ≡ step w (commands.Event t sent.to (acts.Receive sent.from sent.octets))
+unfolding step
+deliver_is w t number sent numbered there = rw numbered (by (node_at w.nodes sent.to) there)
+  where
+    by : (o : Option world.Node) → is_some o ≡ true → Ok (delivered_to w t sent o) ≡ (or_cause causes.Node o >>= λ node. Ok (done_by w sent.to (datagram_deed node t sent.from sent.octets)))
+    by None none = absurd (cc none)
+    by (Some node) there = refl
+
+-- ---- an answer
 
 -- a fact on any line and on no texts, at a line of which there are none
 pub at_line : {A E : Type 0} (r : Result A E) (P : ℕ → List (List ℕ) → A → Type 0) (line : ℕ) (texts : List (List ℕ)) → texts ≡ [] → IfOk r (λ x. (n : ℕ) → P n [] x) → IfOk r (P line texts)
@@ -56,19 +67,16 @@ done_as P Q a b deed old new also same done = record {
 pub leaving : (P Q : world.Node → Type 0) (a b : ℕ) (old new : Noted) (flags gaps : List Held) (r : Result Deed Cause) (refused : Option Cause)
     → ((w : world.Node) → P w → Q w) → a ≡ b → IsStock flags gaps → HasActed P a old new r refused → HasActedLeaving Q b old new flags gaps r (Ok (stock_of flags gaps)) refused
 leaving P Q a b old new flags gaps (Ok deed) None also same stock h = (done_as P Q a b deed old new also same h, refl, stock)
-leaving P Q a b old new flags gaps (Ok deed) (Some found) also same stock h = absurd h
-leaving P Q a b old new flags gaps (Err cause) None also same stock h = absurd h
 leaving P Q a b old new flags gaps (Err cause) (Some found) also same stock h = h
+leaving P Q a b old new flags gaps _ _ also same stock h = absurd h
 
 -- the same where a judge may have been taken
 pub leaving_as : (P Q : world.Node → Type 0) (a b : ℕ) (old new : Noted) (flags gaps : List Held) (r : Result Deed Cause) (left : Result Stock Cause) (refused : Option Cause)
     → ((w : world.Node) → P w → Q w) → a ≡ b → HasActedLeaving P a old new flags gaps r left refused → HasActedLeaving Q b old new flags gaps r left refused
 leaving_as P Q a b old new flags gaps (Ok deed) (Ok left) None also same h = (done_as P Q a b deed old new also same h.0, h.1, h.2)
-leaving_as P Q a b old new flags gaps (Ok deed) (Ok left) (Some found) also same h = absurd h
-leaving_as P Q a b old new flags gaps (Ok deed) (Err cause) None also same h = absurd h
 leaving_as P Q a b old new flags gaps (Ok deed) (Err cause) (Some found) also same h = h
-leaving_as P Q a b old new flags gaps (Err cause) left None also same h = absurd h
 leaving_as P Q a b old new flags gaps (Err cause) left (Some found) also same h = h
+leaving_as P Q a b old new flags gaps _ _ _ also same h = absurd h
 
 -- a refusal leaves open which judges are left
 refused_any : (P Q : world.Node → Type 0) (a b : ℕ) (old new : Noted) (flags gaps : List Held) (cause : Cause) (left : Result Stock Cause) (refused : Option Cause)
@@ -81,26 +89,13 @@ module _ {J B : Type 0} {I : J → Type 0} (see : SlaveNode J I → Seen MemoryP
   pub begun_later : (ip : ℕ) (begun : Bool) (node : Node J I) (w : world.Node) → StandsAs see ip begun node w → StandsAs see ip true node w
   begun_later ip begun (nodes.Grandmaster node) w h = h
   begun_later ip begun (nodes.Slave node) (world.IsGrandmaster g) h = h
-  begun_later ip begun (nodes.Slave node) (world.IsSlave s) h = (
-    h.0,
-    record {
-      address = h.1.address;
-      config = h.1.config;
-      masters = h.1.masters;
-      distinct = h.1.distinct;
-      stands = h.1.stands;
-      ruled = h.1.ruled;
-      fresh = λ e. absurd cc;
-      idle = h.1.idle;
-      sure = h.1.sure;
-    },
-  )
+  begun_later ip begun (nodes.Slave node) (world.IsSlave s) h =
+      (h.0, at_port node.ip (see node).kept (see node).judges (see node).port (see node).port begun true s (λ e. absurd cc) h.1.idle h.1.sure h.1)
 
   pub agrees_later : (ip : ℕ) (begun : Bool) (found : Option (Node J I)) (w : Option world.Node) → Agrees see ip begun found w → Agrees see ip true found w
   agrees_later ip begun None None h = tt
-  agrees_later ip begun None (Some w) h = h
-  agrees_later ip begun (Some node) None h = h
   agrees_later ip begun (Some node) (Some w) h = begun_later ip begun node w h
+  agrees_later ip begun _ _ h = absurd h
 
   -- one address has another node
   pub placed_agree : {S : Type 0} (m n : HashMap ℕ (Node J I) S) (others : Nodes) (begun : Bool) (ip : ℕ) (node : Node J I) (w : world.Node)
@@ -119,9 +114,8 @@ module _ {J B : Type 0} {I : J → Type 0} (see : SlaveNode J I → Seen MemoryP
   -- what is found in the lab is found in the world
   pub is_there : (ip : ℕ) (begun : Bool) (o : Option (Node J I)) (v : Option world.Node) → Agrees see ip begun o v → is_some v ≡ is_some o
   is_there ip begun None None h = refl
-  is_there ip begun None (Some v) h = absurd h
-  is_there ip begun (Some node) None h = absurd h
   is_there ip begun (Some node) (Some v) h = refl
+  is_there ip begun _ _ h = absurd h
 
   -- the lab whose node at the address did its deed, with these judges left, stands for the course behind it
   pub deed_stands : (flags gaps flags' gaps' : List Held) (lab lab' : Lab J I) (c : Course) (ip : ℕ) (node : Node J I) (deed : Deed) (left : Stock)
@@ -142,9 +136,9 @@ module _ {J B : Type 0} {I : J → Type 0} (see : SlaveNode J I → Seen MemoryP
       flags = sym (ap (λ (s : Stock). s.flags) left_is);
       gaps = sym (ap (λ (s : Stock). s.gaps) left_is);
       stock = stock;
-      granted = ap (λ (n : Noted). n.granted) done.noted ∙ (counted_granted ip deed lab.journal c.granted stands.granted
+      granted = ap (λ (n : Noted). n.granted) done.noted ∙ (counted_deed ip deed lab.journal is_granted (λ k x. refl) lab.journal.granted c.granted stands.granted
           ∙ ap (λ s. counted (c.granted + count_by is_granted (said_by s ip deed))) stands.sent);
-      short = ap (λ (n : Noted). n.short) done.noted ∙ (counted_short ip deed lab.journal c.short stands.short
+      short = ap (λ (n : Noted). n.short) done.noted ∙ (counted_deed ip deed lab.journal is_short (λ k x. refl) lab.journal.short c.short stands.short
           ∙ ap (λ s. counted (c.short + count_by is_short (said_by s ip deed))) stands.sent);
     },
     ap (λ (n : Noted). n.texts) done.noted ∙ (deed_texts ip deed lab.journal
@@ -194,11 +188,9 @@ module _ {J B : Type 0} {I : J → Type 0} (see : SlaveNode J I → Seen MemoryP
       decided : (r : Result Deed Cause) (s : Result Stock Cause) (answer : Option Cause) → HasActedLeaving (StandsAs see ip true new) ip lab.journal lab'.journal flags' gaps' r s answer
           → IsOutcome (outcome_by c lab.journal.line (after_acted c.world ip r s)) (StandsFor see flags' gaps' lab') lab'.journal.texts answer
       decided (Ok deed) (Ok left) None h = deed_stands flags gaps flags' gaps' lab lab' c ip new deed left stands h.0 h.1 h.2 none changed begun
-      decided (Ok deed) (Ok left) (Some cause) h = absurd h
-      decided (Ok deed) (Err e) None h = absurd h
       decided (Ok deed) (Err e) (Some cause) h = h
-      decided (Err e) s None h = absurd h
       decided (Err e) s (Some cause) h = h
+      decided _ _ _ h = absurd h
 
       by : (o : Option world.Node) → Agrees see ip c.world.has_begun (Some old) o → IsOutcome (outcome_by c lab.journal.line (at_found c.world ip t act o)) (StandsFor see flags' gaps' lab') lab'.journal.texts refused
       by None h = absurd h
@@ -220,14 +212,8 @@ module _ {J B : Type 0} {I : J → Type 0} (see : SlaveNode J I → Seen MemoryP
 
       by : (a : Act) → HasActed (StandsAsGrandmaster new) old.ip noted noted' (act_deed t a (world.IsGrandmaster g)) refused
           → HasActedLeaving (StandsAs see ip true (nodes.Grandmaster new)) ip noted noted' flags gaps (act_deed t a (world.IsGrandmaster g)) (stock_after a (stock_of flags gaps)) refused
-      by (acts.Receive from octets) done = leaving (StandsAsGrandmaster new) (StandsAs see ip true (nodes.Grandmaster new)) old.ip ip noted noted' flags gaps (act_deed t (acts.Receive from octets) (world.IsGrandmaster g)) refused also h.0 stock done
-      by (acts.Turn table) done = leaving (StandsAsGrandmaster new) (StandsAs see ip true (nodes.Grandmaster new)) old.ip ip noted noted' flags gaps (act_deed t (acts.Turn table) (world.IsGrandmaster g)) refused also h.0 stock done
-      by (acts.Class class) done = leaving (StandsAsGrandmaster new) (StandsAs see ip true (nodes.Grandmaster new)) old.ip ip noted noted' flags gaps (act_deed t (acts.Class class) (world.IsGrandmaster g)) refused also h.0 stock done
-      by (acts.Capacity capacity) done = leaving (StandsAsGrandmaster new) (StandsAs see ip true (nodes.Grandmaster new)) old.ip ip noted noted' flags gaps (act_deed t (acts.Capacity capacity) (world.IsGrandmaster g)) refused also h.0 stock done
-      by acts.Tick done = leaving (StandsAsGrandmaster new) (StandsAs see ip true (nodes.Grandmaster new)) old.ip ip noted noted' flags gaps (act_deed t acts.Tick (world.IsGrandmaster g)) refused also h.0 stock done
-      by (acts.Flag master unusable) done = leaving (StandsAsGrandmaster new) (StandsAs see ip true (nodes.Grandmaster new)) old.ip ip noted noted' flags gaps (act_deed t (acts.Flag master unusable) (world.IsGrandmaster g)) refused also h.0 stock done
       by (acts.Judge master rule) done = refused_any (StandsAsGrandmaster new) (StandsAs see ip true (nodes.Grandmaster new)) old.ip ip noted noted' flags gaps causes.Node (stock_without rule (stock_of flags gaps)) refused done
-      by acts.Stop done = leaving (StandsAsGrandmaster new) (StandsAs see ip true (nodes.Grandmaster new)) old.ip ip noted noted' flags gaps (act_deed t acts.Stop (world.IsGrandmaster g)) refused also h.0 stock done
+      by a done = leaving (StandsAsGrandmaster new) (StandsAs see ip true (nodes.Grandmaster new)) old.ip ip noted noted' flags gaps (act_deed t a (world.IsGrandmaster g)) refused also h.0 stock done
 
   -- a grandmaster that stands for a node of a world stands for a grandmaster there
   pub grandmaster_means : (node : GrandmasterNode) (ip : ℕ) (begun : Bool) (w : world.Node) → StandsAs see ip begun (nodes.Grandmaster node) w → (g : world.Grandmaster) × IsGrandmasterNode node g

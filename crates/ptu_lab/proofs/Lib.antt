@@ -1,13 +1,6 @@
 pub mod SlaveEvents
 pub mod SlaveMasters
-pub mod SlaveHearing
 pub mod SlaveSends
-pub mod LoadCounts
 pub mod LabNodes
-pub mod LabCommands
 pub mod LabSettingUp
-pub mod LabStock
-pub mod LabMasters
 pub mod LabReplaying
-pub mod KeepingHeadline
-mod Room

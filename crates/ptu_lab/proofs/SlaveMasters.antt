@@ -8,8 +8,7 @@ use Rattle.ptu_units.proofs.Keys.{eq-eqb-self}
 use Rattle.ptu_outside.specs.MemoryPort.{IsSure, MemoryPort}
 use Rattle.ptu_record.specs.declared.rule.Rule.{Rule}
 use Rattle.ptu_judges.specs.Held.{Held, IsFresh, fresh}
-use Rattle.ptu_profile.specs.declared.slave.Master.{Master}
-use Rattle.ptu_profile.specs.Slave.{AreMasters, place_of}
+use Rattle.ptu_profile.specs.{declared.slave.Master.{Master}, Slave.{AreMasters, place_of}}
 use Rattle.ptu_slave.specs.{Kept.{Kept}, Standing.{StandsFor}}
 use Rattle.ptu_world.specs.{Deeds.{Slave}, World.{with_master}}
 use Rattle.ptu_lab.specs.NodeStanding.{IsSlaveNode}
@@ -50,9 +49,6 @@ rules_by (x ∷ xs) (o ∷ os) many each = ap₂ (λ r rs. r ∷ rs) (each 0 x r
 rules_are : (openings : List (Option Rule)) (kept : Kept) (judges : List Held) → StandsFor openings kept judges [] → map (λ x. x.rule) judges ≡ openings
 rules_are openings kept judges h = rules_by judges openings (h.each_judged ∙ sym h.each_opening) (λ m x is. (h.judge.of_master m x is).rule)
 
-fresh_ruled : (held : Held) (rule : Rule) → held ≡ fresh rule → IsSome held.rule
-fresh_ruled held rule is = subst (λ (h : Held). IsSome h.rule) (sym is) refl
-
 -- a judge that is made is fresh
 pub fresh_is : (held : Held) (rule : Rule) → held ≡ fresh rule → IsFresh held
 fresh_is held rule is = subst IsFresh (sym is) refl
@@ -64,23 +60,22 @@ judges_fresh ip kept judges port s judge rule h is = all_push IsFresh judges jud
 
 -- ---- the node
 
-pub one_master_more : (ip address priority : ℕ) (old new : Kept) (judges : List Held) (judge : Held) (before after : MemoryPort) (s : Slave) (rule : Rule)
-    → IsSlaveNode ip old judges before false s → judge ≡ fresh rule → length old.masters < 16 → place_of old.masters address ≡ None
+pub master_added : (ip address priority : ℕ) (old new : Kept) (judges news : List Held) (judge : Held) (before after : MemoryPort) (s : Slave) (rule : Rule)
+    → news ≡ judges ++ judge ∷ [] → IsSlaveNode ip old judges before false s → judge ≡ fresh rule → length old.masters < 16 → place_of old.masters address ≡ None
     → new.config ≡ old.config → new.masters ≡ old.masters ++ record { ip = address; priority = priority } ∷ [] → after ≡ before
-    → StandsFor (map (λ x. x.rule) (judges ++ judge ∷ [])) new (judges ++ judge ∷ []) []
-    → IsSlaveNode ip new (judges ++ judge ∷ []) after false (with_master address priority rule s)
-one_master_more ip address priority old new judges judge before after s rule h is few none config masters port stands = record {
+    → StandsFor (map (λ (x : Held). x.rule) news) new news [] → IsSlaveNode ip new news after false (with_master address priority rule s)
+master_added ip address priority old new judges news judge before after s rule are h is few none config masters port stands = rw are (record {
   address = h.address;
   config = h.config ∙ sym config;
   masters = ap (λ ms. ms ++ master ∷ []) h.masters ∙ sym masters;
   distinct = subst AreMasters (sym masters) (masters_more old.masters master h.distinct few none);
   stands = subst (λ L. StandsFor (s.opened.openings ++ Some rule ∷ []) new (judges ++ judge ∷ []) L) (sym empty)
-      (subst (λ os. StandsFor os new (judges ++ judge ∷ []) []) same_rules stands);
-  ruled = all_push (λ held. IsSome held.rule) judges judge h.ruled (fresh_ruled judge rule is);
+      (subst (λ os. StandsFor os new (judges ++ judge ∷ []) []) same_rules (subst (λ js. StandsFor (map (λ (x : Held). x.rule) js) new js []) are stands));
+  ruled = all_push (λ held. IsSome held.rule) judges judge h.ruled (subst (λ (held : Held). IsSome held.rule) (sym is) refl);
   fresh = λ first. (empty, judges_fresh ip old judges before s judge rule h is);
   idle = subst IsIdle (sym port) h.idle;
   sure = subst (λ p. IsSure p []) (sym port) h.sure;
-}
+})
   where
     master : Master
     master = record { ip = address; priority = priority }
@@ -91,13 +86,3 @@ one_master_more ip address priority old new judges judge before after s rule h i
     same_rules : map (λ (x : Held). x.rule) (judges ++ judge ∷ []) ≡ s.opened.openings ++ Some rule ∷ []
     same_rules = map-append (λ (x : Held). x.rule) judges (judge ∷ [])
         ∙ ap₂ (λ os o. os ++ o ∷ []) (rules_are s.opened.openings old judges (subst (λ L. StandsFor s.opened.openings old judges L) empty h.stands)) (ap (λ (x : Held). x.rule) is)
-
--- the same slave, whose judges are given by an equation
-pub master_added : (ip address priority : ℕ) (old new : Kept) (judges news : List Held) (judge : Held) (before after : MemoryPort) (s : Slave) (rule : Rule)
-    → news ≡ judges ++ judge ∷ [] → IsSlaveNode ip old judges before false s → judge ≡ fresh rule → length old.masters < 16 → place_of old.masters address ≡ None
-    → new.config ≡ old.config → new.masters ≡ old.masters ++ record { ip = address; priority = priority } ∷ [] → after ≡ before
-    → StandsFor (map (λ (x : Held). x.rule) news) new news [] → IsSlaveNode ip new news after false (with_master address priority rule s)
-master_added ip address priority old new judges news judge before after s rule are h is few none config masters port stands =
-    subst (λ js. IsSlaveNode ip new js after false (with_master address priority rule s)) (sym are)
-    (one_master_more ip address priority old new judges judge before after s rule h is few none config masters port
-    (subst (λ js. StandsFor (map (λ (x : Held). x.rule) js) new js []) are stands))

@@ -6,31 +6,26 @@ use Rattle.std.specs.List.{cons_option, filter, filter_map, flat_map, list_any}
 use Rattle.std.specs.Prelude.{Result, is_some}
 use Rattle.ptu_units.specs.{declared.kind.Kind.{Kind}, Kind.{kinds}}
 use Rattle.ptu_messages.specs.declared.header.{Header.{Header}, PortIdentity.{PortIdentity}}
-use Rattle.ptu_messages.specs.HeaderSent.{sent_header, sent_identity}
-use Rattle.ptu_messages.specs.declared.tlv.Tlv.{Tlv}
+use Rattle.ptu_messages.specs.declared.{tlv.Tlv.{Tlv}, message.Message.{Message}}
 use Rattle.ptu_messages.specs.declared.tlv.Tlv.TheVariants as tlv
-use Rattle.ptu_messages.specs.TlvsSent.{sent_tlv}
 use Rattle.ptu_messages.specs.declared.{fault.MessageFault.{MessageFault}, message.Body.{Body}}
 use Rattle.ptu_messages.specs.declared.message.Body.TheVariants as body
-use Rattle.ptu_messages.specs.declared.message.Message.{Message}
 use Rattle.ptu_messages.specs.{Message.{SpellsBody, SpellsMessage}, Reading.{message_in}}
-use Rattle.ptu_messages.specs.Sent.{octets_sent, signaling}
-use Rattle.ptu_messages.proofs.Readings.{found_is}
+use Rattle.ptu_messages.{specs.Sent.{octets_sent, signaling}, proofs.Readings.{found_is}}
 use Rattle.ptu_outside.specs.{Departure.{Departure}, MemoryPort.{IsSure, MemoryPort, departure_octets}}
 use Rattle.ptu_outside.proofs.Sure.{sure_within}
 use Rattle.ptu_record.specs.{declared.wants.Wants.{Wants}, Lists.{places}}
 use Rattle.ptu_record.specs.{Record.{Record, record_of}, Asks.{due_kinds, is_due}}
-use Rattle.ptu_record.specs.Grants.{is_live, live_kinds}
+use Rattle.ptu_record.specs.{Grants.{is_live, live_kinds}, Wants.{wanted_kinds, wanted_log}}
 use Rattle.ptu_record.specs.Step.{SlaveSetup, Stop, Tick, cancel_code, one_reply, sendings}
 use Rattle.ptu_record.specs.Tick.{Acknowledgements, Cancels, DelayReq, Requests, Sending, cancels_to, delay_req_number, is_probe_due, is_stop, one_signaling, requests_to, signaling_number}
-use Rattle.ptu_record.specs.Wants.{wanted_kinds, wanted_log}
 use Rattle.ptu_profile.specs.declared.slave.{Master.{Master}, SlaveConfig.{SlaveConfig}}
 use Rattle.ptu_profile.specs.Slave.{slave_header}
 use Rattle.ptu_slave_messages.specs.declared.reason.SlaveReason.{SlaveReason}
 use Rattle.ptu_slave_messages.specs.Heard.{replies_in, replies_to, said_by}
 use Rattle.ptu_slave_messages.specs.Reception.{beside, of_reading, reception, sender_of}
 use Rattle.ptu_slave_messages.specs.Sending.{cancel_of, sending_departure, message_of, request_of}
-use Rattle.ptu_lab.specs.SlaveWords.{HasRoom}
+use Rattle.ptu_nodes.{specs.GrandmasterPorts.{HasRoom}, proofs.Lengths.{signaling_length}}
 
 -- ---- counts
 
@@ -70,26 +65,9 @@ within_each departure f count size each (m ∷ ms) =
 
 -- ---- octets
 
-tlv_short : (v : Tlv) → length (sent_tlv v) ≤ 12
-tlv_short (tlv.Request ask) = omega arith
-tlv_short (tlv.Grant ask invited) = omega arith
-tlv_short (tlv.Cancel code) = omega arith
-tlv_short (tlv.Ack code) = omega arith
-tlv_short (tlv.Other t n) = omega arith
-
-tlvs_short : (tlvs : List Tlv) → length (flat_map sent_tlv tlvs) ≤ 12 * length tlvs
-tlvs_short [] = omega arith
-tlvs_short (v ∷ tlvs) = omega (arith, length-append (sent_tlv v) (flat_map sent_tlv tlvs), tlv_short v, tlvs_short tlvs)
-
 -- a Signaling with the TLVs that it has room for
 signaling_short : (header : Header) (target : PortIdentity) (tlvs : List Tlv) → length tlvs ≤ 32 → length (octets_sent (signaling header target tlvs)) ≤ 428
-unfolding octets_sent
-signaling_short header target tlvs few =
-    let values : List ℕ = flat_map sent_tlv tlvs in
-    let n : ℕ = 34 + length (sent_identity target ++ values) in
-    let front : length (sent_header header n) ≡ 34 = refl in
-    let identity : length (sent_identity target) ≡ 10 = refl in
-    omega (arith, length-append (sent_header header n) (sent_identity target ++ values), length-append (sent_identity target) values, front, identity, tlvs_short tlvs, few)
+signaling_short header target tlvs few = omega (arith, signaling_length header target tlvs, few)
 
 delay_req_short : (config : SlaveConfig) (target : PortIdentity) (m number : ℕ) → length (octets_sent (message_of config target (DelayReq m number))) ≤ 44
 unfolding octets_sent
@@ -109,17 +87,13 @@ live_few L x = fewer (λ k. is_live k L x) kinds
 -- ---- a tick, and the stop
 
 module _ (config : SlaveConfig) (masters : List Master) (target : PortIdentity) where
-  within_requests : (m number : ℕ) (ks : List Kind) → length ks ≤ 3 → AreWithin 1 428 (map (sending_departure config masters target) (one_signaling (Requests m number) ks))
-  within_requests m number [] few = within_none 1 428
-  within_requests m number (k ∷ ks) few =
-      within_one 428 (sending_departure config masters target (Requests m number (k ∷ ks)))
-      (signaling_short (slave_header config 12 number) target (map (request_of config.wants) (k ∷ ks)) (omega (arith, few, length-map (k ∷ ks) (request_of config.wants))))
-
-  within_cancels : (m number : ℕ) (ks : List Kind) → length ks ≤ 3 → AreWithin 1 428 (map (sending_departure config masters target) (one_signaling (Cancels m number) ks))
-  within_cancels m number [] few = within_none 1 428
-  within_cancels m number (k ∷ ks) few =
-      within_one 428 (sending_departure config masters target (Cancels m number (k ∷ ks)))
-      (signaling_short (slave_header config 12 number) target (map cancel_of (k ∷ ks)) (omega (arith, few, length-map (k ∷ ks) cancel_of)))
+  -- a Signaling for some kinds
+  within_kinds : (make : List Kind → Sending) (tlv_of : Kind → Tlv) (number : ℕ) → ((ks : List Kind) → message_of config target (make ks) ≡ signaling (slave_header config 12 number) target (map tlv_of ks))
+      → (ks : List Kind) → length ks ≤ 3 → AreWithin 1 428 (map (sending_departure config masters target) (one_signaling make ks))
+  within_kinds make tlv_of number is [] few = within_none 1 428
+  within_kinds make tlv_of number is (k ∷ ks) few =
+      within_one 428 (sending_departure config masters target (make (k ∷ ks))) (subst (λ message. length (octets_sent message) ≤ 428) (sym (is (k ∷ ks)))
+      (signaling_short (slave_header config 12 number) target (map tlv_of (k ∷ ks)) (omega (arith, few, length-map (k ∷ ks) tlv_of))))
 
   within_probe : (is : Bool) (m number : ℕ) → AreWithin 1 44 (map (sending_departure config masters target) (cond is (DelayReq m number ∷ []) []))
   within_probe true m number = within_one 44 (sending_departure config masters target (DelayReq m number)) (delay_req_short config target m number)
@@ -132,10 +106,10 @@ module _ (config : SlaveConfig) (masters : List Master) (target : PortIdentity) 
       let probe : List Sending = cond (is_probe_due wants own x) (DelayReq m (delay_req_number own) ∷ []) [] in
       subst (AreWithin 2 472) (sym (map-append (sending_departure config masters target) asks probe))
       (within-append 1 1 428 44 (map (sending_departure config masters target) asks) (map (sending_departure config masters target) probe)
-      (within_requests m (signaling_number own) (due_kinds wants own x) (due_few wants own x))
+      (within_kinds (Requests m (signaling_number own)) (request_of config.wants) (signaling_number own) (λ ks. refl) (due_kinds wants own x) (due_few wants own x))
       (within_probe (is_probe_due wants own x) m (delay_req_number own)))
 
-  within_tick : (setup : SlaveSetup) (L : Record) (x : ℕ) → length setup.openings ≤ 16 → AreWithin 32 7552 (map (sending_departure config masters target) (sendings setup L x Tick))
+  pub within_tick : (setup : SlaveSetup) (L : Record) (x : ℕ) → length setup.openings ≤ 16 → AreWithin 32 7552 (map (sending_departure config masters target) (sendings setup L x Tick))
   within_tick setup L x few = by_stop (list_any is_stop L)
     where
       n : ℕ
@@ -148,12 +122,12 @@ module _ (config : SlaveConfig) (masters : List Master) (target : PortIdentity) 
       by_stop true = within_none 32 7552
       by_stop false = within_more (length (places n) * 2) 32 (length (places n) * 472) 7552 _ (omega (arith, length-range_with_len 0 n, few)) (omega (arith, length-range_with_len 0 n, few)) all
 
-  within_stop : (setup : SlaveSetup) (L : Record) (x : ℕ) → length setup.openings ≤ 16 → AreWithin 16 6848 (map (sending_departure config masters target) (sendings setup L x Stop))
+  pub within_stop : (setup : SlaveSetup) (L : Record) (x : ℕ) → length setup.openings ≤ 16 → AreWithin 16 6848 (map (sending_departure config masters target) (sendings setup L x Stop))
   within_stop setup L x few =
       let n : ℕ = length setup.openings in
       within_more (length (places n) * 1) 16 (length (places n) * 428) 6848 _ (omega (arith, length-range_with_len 0 n, few)) (omega (arith, length-range_with_len 0 n, few))
       (within_each (sending_departure config masters target) (cancels_to L x) 1 428
-      (λ m. within_cancels m (signaling_number (record_of m L)) (live_kinds (record_of m L) x) (live_few (record_of m L) x)) (places n))
+      (λ m. within_kinds (Cancels m (signaling_number (record_of m L))) cancel_of (signaling_number (record_of m L)) (λ ks. refl) (live_kinds (record_of m L) x) (live_few (record_of m L) x)) (places n))
 
 -- ---- a reply
 
@@ -175,15 +149,10 @@ module _ (config : SlaveConfig) (masters : List Master) where
 
   within_replies : (octets : List ℕ) (n m : ℕ) (header : Header) (b : Body) → SpellsBody octets n b
       → AreWithin 1 428 (map (sending_departure config masters header.source) (replies_to m (record { header = header; body = b })))
-  within_replies octets n m header (body.Announce announce) spelled = within_none 1 428
-  within_replies octets n m header (body.Sync stamp) spelled = within_none 1 428
-  within_replies octets n m header (body.FollowUp stamp) spelled = within_none 1 428
-  within_replies octets n m header (body.DelayResp stamp requester) spelled = within_none 1 428
   within_replies octets n m header (body.Signaling target tlvs) spelled =
       within_reply header.source m header.sequence (filter_map cancel_code (filter_map said_by tlvs))
       (omega (arith, given_few cancel_code (filter_map said_by tlvs), given_few said_by tlvs, spelled.1.few))
-  within_replies octets n m header (body.DelayReq stamp) spelled = within_none 1 428
-  within_replies octets n m header body.Ignored spelled = within_none 1 428
+  within_replies octets n m header _ spelled = within_none 1 428
 
   -- what is taken was read
   read_is : (read message : Message) (m : ℕ) (sender : Result ℕ SlaveReason) → beside read sender ≡ Ok (m, message) → read ≡ message
@@ -209,22 +178,9 @@ module _ (config : SlaveConfig) (masters : List Master) where
 
 -- ---- the port
 
-sure_of : (port : MemoryPort) (ds : List Departure) (datagrams octets : ℕ) → IsSure port [] → HasRoom port datagrams octets → AreWithin datagrams octets ds → IsSure port ds
-sure_of port ds datagrams octets sure room within = sure_within port ds datagrams octets sure.unlisted room.datagrams room.octets within.few within.short
+pub sure_of : (port : MemoryPort) (ds : List Departure) (datagrams octets : ℕ) → IsSure port [] → HasRoom datagrams octets port → AreWithin datagrams octets ds → IsSure port ds
+sure_of port ds datagrams octets sure room within = sure_within port ds datagrams octets sure.unlisted room.0 room.1 within.few within.short
 
-module _ (config : SlaveConfig) (masters : List Master) where
-  pub sure_tick : (port : MemoryPort) (target : PortIdentity) (setup : SlaveSetup) (L : Record) (x : ℕ) (handed : List Sending) → handed ≡ sendings setup L x Tick
-      → length setup.openings ≤ 16 → IsSure port [] → HasRoom port 32 7552 → IsSure port (map (sending_departure config masters target) handed)
-  sure_tick port target setup L x handed stated few sure room =
-      sure_of port (map (sending_departure config masters target) handed) 32 7552 sure room
-      (subst (λ ss. AreWithin 32 7552 (map (sending_departure config masters target) ss)) (sym stated) (within_tick config masters target setup L x few))
-
-  pub sure_stop : (port : MemoryPort) (target : PortIdentity) (setup : SlaveSetup) (L : Record) (x : ℕ) (handed : List Sending) → handed ≡ sendings setup L x Stop
-      → length setup.openings ≤ 16 → IsSure port [] → HasRoom port 16 6848 → IsSure port (map (sending_departure config masters target) handed)
-  sure_stop port target setup L x handed stated few sure room =
-      sure_of port (map (sending_departure config masters target) handed) 16 6848 sure room
-      (subst (λ ss. AreWithin 16 6848 (map (sending_departure config masters target) ss)) (sym stated) (within_stop config masters target setup L x few))
-
-  pub sure_answer : (port : MemoryPort) (ip : ℕ) (octets : List ℕ) → IsSure port [] → HasRoom port 1 428 → IsSure port (replies_in config masters (reception config masters ip octets))
-  sure_answer port ip octets sure room =
-      sure_of port (replies_in config masters (reception config masters ip octets)) 1 428 sure room (within_answer config masters ip octets)
+pub sure_answer : (config : SlaveConfig) (masters : List Master) (port : MemoryPort) (ip : ℕ) (octets : List ℕ) → IsSure port [] → HasRoom 1 428 port → IsSure port (replies_in config masters (reception config masters ip octets))
+sure_answer config masters port ip octets sure room =
+    sure_of port (replies_in config masters (reception config masters ip octets)) 1 428 sure room (within_answer config masters ip octets)

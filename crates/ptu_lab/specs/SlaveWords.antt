@@ -1,6 +1,6 @@
 -- What the slave of a node is set up with, and what is said of what it selects.
-use Rattle.std.specs.Prelude.{◌≡◌, ◌≤◌, ◌+◌, ℕ, true, List, [], length}
-use Rattle.ptu_outside.specs.MemoryPort.{IsSure, MemoryPort, departure_octets}
+use Rattle.std.specs.Prelude.{◌≡◌, ℕ, true, List, []}
+use Rattle.ptu_outside.specs.MemoryPort.{IsSure, MemoryPort}
 use Rattle.ptu_judges.specs.Held.{Held}
 use Rattle.ptu_slave_messages.specs.Node.{Deed}
 use Rattle.ptu_world.specs.{Deeds.{IsGrandmaster, IsSlave, Node, Slave}, Slaves.{entered}}
@@ -34,8 +34,3 @@ pub record HasSlaveStepped (ip : ℕ) (kept : Kept) (judges : List Held) (port :
 -- the same of what is seen of a slave
 abbrev pub HasSteppedTo : {B : Type 0} → ℕ → Seen MemoryPort B → Slave → Deed → Type 0
 HasSteppedTo ip seen s deed = HasSlaveStepped ip seen.kept seen.judges seen.port s deed
-
--- beside what was sent the port has room for so many datagrams, of so many octets in all
-pub record HasRoom (port : MemoryPort) (count size : ℕ) : Type 0 where
-  pub datagrams : length port.sent + count ≤ port.datagrams
-  pub octets : departure_octets port.sent + size ≤ port.octets

@@ -1,20 +1,20 @@
 -- Which worlds the lab stands for.
 use Rattle.std.specs.Prelude.{◌≡◌, ℕ, Bool, true, nat_eq, List, length, map, Option, Some, None}
-use Rattle.std.specs.{HashMap.{get}, declared.{alloc.Global.{Global}, dyn_box.DynBox.{DynBox}}}
+use Rattle.std.specs.{HashMap.{get}, Option.{MatchOption}}
+use Rattle.std.specs.declared.{alloc.Global.{Global}, dyn_box.DynBox.{DynBox}}
 use Rattle.ptu_outside.specs.MemoryPort.{MemoryPort}
+use Rattle.ptu_record.specs.declared.rule.Rule.{Rule}
 use Rattle.ptu_judges.specs.Held.{Held, IsStock}
 use Rattle.ptu_slave.specs.{Seen.{Seen, seen}, SeenBy.{seen_by}}
 use Rattle.ptu_script.specs.declared.{cause.Cause.{Cause}, command.Command.{Command}}
 use Rattle.ptu_world.specs.Deeds as world
-use Rattle.ptu_world.specs.World.{node_at}
+use Rattle.ptu_world.specs.{World.{node_at}, Report.{Course}}
 use Rattle.ptu_units.specs.Counts.{counted}
-use Rattle.ptu_world.specs.Report.{Course}
-use Rattle.ptu_lab.specs.declared.slave_node.SlaveNode.{SlaveNode}
-use Rattle.ptu_lab.specs.{NodeStanding.{IsNode, StandsAsNode}, Steps.{HasStepped}}
+use Rattle.ptu_lab.specs.declared.{slave_node.SlaveNode.{SlaveNode}, lab.Node.{Node}}
+use Rattle.ptu_lab.specs.{NodeStanding.{IsNode, StandsAsNode}, Steps.{HasNone, HasStepped, HasTaken}}
 use Rattle.ptu_nodes.specs.{Doing.{HasDone}, Noted.{Noted}, Standing.{StandsAsGrandmaster}}
-use Rattle.ptu_lab.specs.declared.lab.Node.{Node}
+use Rattle.ptu_lab.specs.declared.{lab.Lab.{Lab}, stock.Reserve.{Reserve}}
 use Rattle.ptu_lab.specs.declared.lab.Node.TheVariants as nodes
-use Rattle.ptu_lab.specs.declared.lab.Lab.{Lab}
 
 -- what is seen of a slave is handed over as a function
 
@@ -53,6 +53,15 @@ module _ {X : Type 0} {F : X → Type 0} (held : DynBox X Global F → Held) whe
   abbrev pub LabStandsFor : Lab X F → Course → Type 0
   LabStandsFor lab c =
       StandsFor (λ n. seen held n.slave) (map held lab.stock.flags.items) (map held lab.stock.gaps.items) lab c
+
+  -- the judges that are left are fresh, and of their rules
+  abbrev pub IsReserve : Reserve X F → Type 0
+  IsReserve reserve = IsStock (map held reserve.flags.items) (map held reserve.gaps.items)
+
+  -- a fresh judge of the rule was taken of those that are left, or there was none
+  abbrev pub HasTakenOf : (old new : Reserve X F) → Rule → Option (DynBox X Global F) → Type 0
+  HasTakenOf old new rule taken = MatchOption taken (HasNone rule (map held old.flags.items) (map held old.gaps.items))
+      (λ judge. HasTaken rule (map held old.flags.items) (map held old.gaps.items) (map held new.flags.items) (map held new.gaps.items) (held judge))
 
   -- the lab did what was commanded at the line of this number: the texts of that are these; or this is why it is refused
   abbrev pub HasObeyed : (old new : Lab X F) → ℕ → List (List ℕ) → Command → Option Cause → Type 0

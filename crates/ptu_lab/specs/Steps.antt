@@ -3,9 +3,8 @@ use Rattle.std.specs.Prelude.{◌≡◌, ℕ, Bool, List, length, Option, Some, 
 use Rattle.ptu_record.specs.declared.rule.Rule.{Rule}
 use Rattle.ptu_judges.specs.Held.{Held, IsStock, fresh}
 use Rattle.ptu_report.specs.Rules.{IsOutcome}
-use Rattle.ptu_script.specs.declared.cause.Cause.{Cause}
+use Rattle.ptu_script.specs.declared.{cause.Cause.{Cause}, command.Command.{Command}}
 use Rattle.ptu_script.specs.declared.cause.Cause.TheVariants as causes
-use Rattle.ptu_script.specs.declared.command.Command.{Command}
 use Rattle.ptu_world.specs.{Deeds.{Deed, Node}, World.{Stock, step, stock_without}}
 use Rattle.ptu_world.specs.Report.{Course, outcome_by}
 use Rattle.ptu_lab.specs.declared.lab.Node.{Node as LabNode}

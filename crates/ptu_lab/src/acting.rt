@@ -1,12 +1,11 @@
 //! The lab's nodes act: at an event, and as a datagram that was sent is delivered.
 ghost use Rattle.std.specs.Prelude.{◌≡◌, ℕ, Bool, [], true, map, IfOk, OnOk};
-ghost use Rattle.ptu_judges.specs.Held.{IsStock};
 ghost use Rattle.ptu_script.specs.Limits.{IsActWithin};
 ghost use Rattle.ptu_script.specs.declared.command.Command.TheVariants as commands;
 ghost use Rattle.ptu_world.specs.Deeds as world;
 ghost use Rattle.ptu_world.specs.{Report.{Course}, World.{act_deed, stock_after}};
 ghost use Rattle.ptu_lab.specs.Steps.{HasActedLeaving, stock_of};
-ghost use Rattle.ptu_lab.specs.Standing.{HasObeyed, LabStandsFor, NodeStandsAs};
+ghost use Rattle.ptu_lab.specs.Standing.{HasObeyed, IsReserve, LabStandsFor, NodeStandsAs};
 
 use crate::lab::{Lab, Node};
 use crate::stock::Reserve;
@@ -34,8 +33,7 @@ impl Node {
     ) -> Stepped<Cause>
         requires means { (ip : ℕ) × (begun : Bool) × (w : world.Node)
             × NodeStandsAs held ip begun self.old w }
-        requires stock { IsStock (map held stock.old.flags.items)
-            (map held stock.old.gaps.items) }
+        requires stock { IsReserve held stock.old }
         requires within { IsActWithin act }
         ensures { IfOk result (λ refused. (ip : ℕ) (begun : Bool) (w : world.Node) →
             NodeStandsAs held ip begun self.old w →

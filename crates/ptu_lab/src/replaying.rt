@@ -4,9 +4,8 @@ ghost use Rattle.std.specs.Prelude.{◌≡◌, ℕ, List, [], ◌∷◌, map, So
 ghost use Rattle.ptu_judges.specs.Boxes.{IsFreshStock};
 ghost use Rattle.ptu_report.specs.Runs.{HasRunThrough};
 ghost use Rattle.ptu_world.specs.Report.{course_opening, report, rules};
-ghost use Rattle.ptu_lab.specs.Headline.{KeepsHeadline};
-ghost use Rattle.ptu_lab.specs.Replayed.{AreCounts, HasReplayed, IfReplayed};
-ghost use Rattle.ptu_lab.specs.{Standing.{LabStandsFor}, Steps.{stock_of}};
+ghost use Rattle.ptu_lab.specs.{Headline.{KeepsHeadline}, Standing.{LabStandsFor}};
+ghost use Rattle.ptu_lab.specs.{Replayed.{AreCounts, HasReplayed, IfReplayed}, Steps.{stock_of}};
 
 use crate::done::Done;
 use crate::lab::Lab;

@@ -5,8 +5,7 @@ ghost use Rattle.ptu_script.specs.Limits.{IsNamed};
 ghost use Rattle.ptu_script.specs.declared.command.Command.TheVariants as commands;
 ghost use Rattle.ptu_world.specs.Report.{Course};
 ghost use Rattle.ptu_lab.specs.declared.lab.Node.TheVariants as described;
-ghost use Rattle.ptu_lab.specs.Steps.{IsNoSlave, refusal};
-ghost use Rattle.ptu_lab.specs.Standing.{HasObeyed, LabStandsFor};
+ghost use Rattle.ptu_lab.specs.{Steps.{IsNoSlave, refusal}, Standing.{HasObeyed, LabStandsFor}};
 
 use crate::lab::{Lab, Node};
 use crate::slave_node::{MASTERS, SlaveNode};

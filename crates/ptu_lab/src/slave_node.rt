@@ -5,7 +5,7 @@ ghost use Rattle.std.specs.Prelude.{◌≡◌, ◌<◌, ◌≤◌, ◌^◌, ℕ,
 ghost use Rattle.std.specs.Prelude.{map, Option, None, Some, IfOk, OnOk};
 ghost use Rattle.ptu_record.specs.{declared.rule.Rule.{Rule}, Record.{Record}};
 ghost use Rattle.ptu_record.specs.Step.{ReplaceJudge, Stop, TellFlag, Tick};
-ghost use Rattle.ptu_judges.specs.Held.{IsStock, fresh};
+ghost use Rattle.ptu_judges.specs.Held.{fresh};
 ghost use Rattle.ptu_profile.specs.Slave.{place_of};
 ghost use Rattle.ptu_slave_messages.specs.Node as node;
 ghost use Rattle.ptu_slave_messages.specs.Node.{datagram_heard};
@@ -15,12 +15,12 @@ ghost use Rattle.ptu_world.specs.Deeds.{IsSlave, Slave as Described};
 ghost use Rattle.ptu_world.specs.Slaves.{datagram_deed, plain_deed};
 ghost use Rattle.ptu_world.specs.World.{act_deed, new_slave, of_master, stock_after, stock_without};
 ghost use Rattle.ptu_world.specs.World.{with_master as described_with_master};
-ghost use Rattle.ptu_nodes.specs.{Doing.{HasActed, HasDone}, Noted.{with_handed, with_said}};
-ghost use Rattle.ptu_nodes.specs.Standing.{IsIdle};
+ghost use Rattle.ptu_nodes.specs.{Doing.{HasActed}, GrandmasterPorts.{HasRoom}, Standing.{IsIdle}};
+ghost use Rattle.ptu_nodes.specs.Noted.{with_handed, with_said};
 ghost use Rattle.ptu_outside.specs.MemoryPort.{IsSure};
 ghost use Rattle.ptu_lab.specs.{NodeStanding.{IsNode, StandsAsNode}, SlaveStatements.{IsOfOne}};
-ghost use Rattle.ptu_lab.specs.SlaveWords.{HasConfig, HasRoom, HasSteppedTo, selection_by};
-ghost use Rattle.ptu_lab.specs.Standing.{HasDoneAsSlave};
+ghost use Rattle.ptu_lab.specs.SlaveWords.{HasConfig, HasSteppedTo, selection_by};
+ghost use Rattle.ptu_lab.specs.Standing.{HasDoneAsSlave, IsReserve};
 ghost use Rattle.ptu_lab.specs.Steps.{HasActedLeaving, stock_of};
 
 use crate::slave_statements::{say_heard, was_ignored};
@@ -127,8 +127,7 @@ impl SlaveNode {
         stock: &mut Reserve,
         journal: &mut Journal,
     ) -> Stepped<Cause>
-        requires stock { IsStock (map held stock.old.flags.items)
-            (map held stock.old.gaps.items) }
+        requires stock { IsReserve held stock.old }
         requires within { IsActWithin act }
         ensures ip { self.new.ip ≡ self.old.ip }
         ensures acted { IfOk result (λ refused. (begun : Bool) (s : Described) →
@@ -179,23 +178,28 @@ impl SlaveNode {
         self.conclude(at, journal)
     }
 
-    // A tick.
+    // A tick, with room for all that it may send.
     fn tick(&mut self, at: Moment, journal: &mut Journal) -> Result<(), OutOfMemory>
+        requires moment { at < 2 ^ 62 }
         ensures ip { self.new.ip ≡ self.old.ip }
         ensures done { OnOk result (HasDoneAsSlave held self.old self.new
             (λ s. plain_deed s at Tick) journal.old journal.new) }
     {
-        tick(&mut self.slave, at)?;
+        let octets = MASTERS * (LONGEST_SIGNALING + SYNC_LENGTH);
+        make_room(&mut self.slave, 2 * MASTERS, octets)?;
+        self.slave.tick(at);
         self.conclude(at, journal)
     }
 
-    // The stop.
+    // The stop, with room for all that it may send.
     fn stop(&mut self, at: Moment, journal: &mut Journal) -> Result<(), OutOfMemory>
+        requires moment { at < 2 ^ 62 }
         ensures ip { self.new.ip ≡ self.old.ip }
         ensures done { OnOk result (HasDoneAsSlave held self.old self.new
             (λ s. plain_deed s at Stop) journal.old journal.new) }
     {
-        stop(&mut self.slave, at)?;
+        make_room(&mut self.slave, MASTERS, MASTERS * LONGEST_SIGNALING)?;
+        self.slave.stop(at);
         self.conclude(at, journal)
     }
 
@@ -249,8 +253,7 @@ impl SlaveNode {
         stock: &mut Reserve,
         journal: &mut Journal,
     ) -> Stepped<Cause>
-        requires stock { IsStock (map held stock.old.flags.items)
-            (map held stock.old.gaps.items) }
+        requires stock { IsReserve held stock.old }
         requires named { IsNamed rule }
         ensures ip { self.new.ip ≡ self.old.ip }
         ensures acted { IfOk result (λ refused. (begun : Bool) (s : Described) →
@@ -268,30 +271,9 @@ impl SlaveNode {
         let Some(judge) = take_judge(stock, rule) else {
             return Ok(Some(Cause::Stock));
         };
-        self.set_judge(at, place, judge, journal)?;
+        self.slave.set_judge(at, place, judge);
+        self.say_selected(at, journal)?;
         Ok(None)
-    }
-
-    // Another judge takes over the master at a place.
-    fn set_judge(
-        &mut self,
-        at: Moment,
-        master: usize,
-        judge: Box<dyn Judge>,
-        journal: &mut Journal,
-    ) -> Result<(), OutOfMemory>
-        requires place { master < length (seen held self.old.slave).kept.masters }
-        requires fresh { (rule : Rule) × (held judge ≡ fresh rule) }
-        ensures ip { self.new.ip ≡ self.old.ip }
-        ensures done { OnOk result ((begun : Bool) (s : Described) (rule : Rule) →
-            held judge ≡ fresh rule →
-            IsNode self.old.ip (seen held self.old.slave) begun s →
-            HasDone (StandsAsNode self.new.ip (seen held self.new.slave) true)
-            self.old.ip (plain_deed s at (ReplaceJudge master (Some rule))) journal.old
-            journal.new) }
-    {
-        self.slave.set_judge(at, master, judge);
-        self.say_selected(at, journal)
     }
 
     // Hands over what the slave sent, and says what it selects.
@@ -370,8 +352,7 @@ fn make_room(slave: &mut Slave<MemPort>, datagrams: usize, octets: usize) -> Res
         (seen_by held slave.old).port.sent }
     ensures listed { (seen_by held slave.new).port.failing_sends ≡
         (seen_by held slave.old).port.failing_sends }
-    ensures room { OnOk result (HasRoom (seen_by held slave.new).port
-        datagrams octets) }
+    ensures room { OnOk result (HasRoom datagrams octets (seen_by held slave.new).port) }
     ensures rest { seen_by held slave.new ≡ record
         (seen_by held slave.old)
         { port = (seen_by held slave.new).port } }
@@ -402,33 +383,6 @@ fn take(
 {
     make_room(slave, 1, LONGEST_SIGNALING)?;
     slave.take(alloc, at, from, octets)
-}
-
-// The slave ticks, with room for all that it may send.
-fn tick(slave: &mut Slave<MemPort>, at: Moment) -> Result<(), OutOfMemory>
-    requires moment { at < 2 ^ 62 }
-    ensures { OnOk result ((ip : ℕ) (begun : Bool) (s : Described) →
-        IsNode ip (seen_by held slave.old) begun s →
-        HasSteppedTo ip (seen_by held slave.new) s
-        (node.deed s.opened s.taken at Tick)) }
-{
-    let octets = MASTERS * (LONGEST_SIGNALING + SYNC_LENGTH);
-    make_room(slave, 2 * MASTERS, octets)?;
-    slave.tick(at);
-    Ok(())
-}
-
-// The slave stops, with room for all that it may send.
-fn stop(slave: &mut Slave<MemPort>, at: Moment) -> Result<(), OutOfMemory>
-    requires moment { at < 2 ^ 62 }
-    ensures { OnOk result ((ip : ℕ) (begun : Bool) (s : Described) →
-        IsNode ip (seen_by held slave.old) begun s →
-        HasSteppedTo ip (seen_by held slave.new) s
-        (node.deed s.opened s.taken at Stop)) }
-{
-    make_room(slave, MASTERS, MASTERS * LONGEST_SIGNALING)?;
-    slave.stop(at);
-    Ok(())
 }
 
 // The address of the master that a slave selects.

@@ -1,8 +1,6 @@
 //! Judges that are taken as a script names them.
-ghost use Rattle.std.specs.{Prelude.{map}, Option.{MatchOption}};
-ghost use Rattle.ptu_judges.specs.Held.{IsStock};
 ghost use Rattle.ptu_script.specs.Limits.{IsNamed};
-ghost use Rattle.ptu_lab.specs.Steps.{HasNone, HasTaken};
+ghost use Rattle.ptu_lab.specs.Standing.{HasTakenOf, IsReserve};
 
 use ptu_judges::{Judge, Rule};
 
@@ -15,15 +13,9 @@ pub struct Reserve {
 
 /// Takes the last judge of a rule that a script can name; `None` where none is left.
 pub fn take_judge(stock: &mut Reserve, rule: Rule) -> Option<Box<dyn Judge>>
-    requires stock { IsStock (map held stock.old.flags.items)
-        (map held stock.old.gaps.items) }
+    requires stock { IsReserve held stock.old }
     requires named { IsNamed rule }
-    ensures { MatchOption result
-        (HasNone rule (map held stock.old.flags.items)
-        (map held stock.old.gaps.items))
-        (λ judge. HasTaken rule (map held stock.old.flags.items)
-        (map held stock.old.gaps.items) (map held stock.new.flags.items)
-        (map held stock.new.gaps.items) (held judge)) }
+    ensures { HasTakenOf held stock.old stock.new rule result }
 {
     match rule {
         Rule::Flag => stock.flags.pop(),

@@ -4,8 +4,7 @@ use Rattle.ptu_outside.specs.MemoryPort.{MemoryPort}
 use Rattle.ptu_shard.specs.Table.{Kept}
 use Rattle.ptu_grandmaster.specs.Gm.{KeptGm, port_at, with_port}
 use Rattle.ptu_nodes.specs.{GrandmasterPorts.{GoesOn, in_ports}, Noted.{Noted, with_handed}}
-use Rattle.ptu_nodes.specs.Standing.{IsIdle, IsUnfailing}
-use Rattle.ptu_nodes.proofs.Noting.{handed_more}
+use Rattle.ptu_nodes.{specs.Standing.{IsIdle, IsUnfailing}, proofs.Noting.{handed_more}}
 
 -- ---- a port is lent
 
@@ -16,13 +15,17 @@ abbrev pub with_by : Bool → Bool → Bool → Kept MemoryPort → KeptGm Memor
 with_by zero one two table gm =
     cond zero (record gm { s0 = table }) (cond one (record gm { s1 = table }) (cond two (record gm { s2 = table }) (record gm { s3 = table })))
 
+-- what holds of each table holds of the one that is picked
+pub each_table : (P : Kept MemoryPort → Type 0) (zero one two : Bool) (gm : KeptGm MemoryPort) → P gm.s0 → P gm.s1 → P gm.s2 → P gm.s3 → P (table_by zero one two gm)
+each_table P true one two gm p0 p1 p2 p3 = p0
+each_table P false true two gm p0 p1 p2 p3 = p1
+each_table P false false true gm p0 p1 p2 p3 = p2
+each_table P false false false gm p0 p1 p2 p3 = p3
+
 goes_on_by : (four zero one two : Bool) (port : MemoryPort) (gm : KeptGm MemoryPort) →
     GoesOn gm (cond four (record gm { reply = port }) (with_by zero one two (record (table_by zero one two gm) { port = port }) gm))
-goes_on_by true zero one two port gm = record { config = refl; stands = λ opening history h. record { decided = h.decided; granted = h.granted; refused = h.refused; sequence = h.sequence } }
-goes_on_by false true one two port gm = record { config = refl; stands = λ opening history h. record { decided = h.decided; granted = h.granted; refused = h.refused; sequence = h.sequence } }
-goes_on_by false false true two port gm = record { config = refl; stands = λ opening history h. record { decided = h.decided; granted = h.granted; refused = h.refused; sequence = h.sequence } }
-goes_on_by false false false true port gm = record { config = refl; stands = λ opening history h. record { decided = h.decided; granted = h.granted; refused = h.refused; sequence = h.sequence } }
 goes_on_by false false false false port gm = record { config = refl; stands = λ opening history h. record { decided = h.decided; granted = h.granted; refused = h.refused; sequence = h.sequence } }
+goes_on_by _ _ _ _ port gm = record { config = refl; stands = λ opening history h. record { decided = h.decided; granted = h.granted; refused = h.refused; sequence = h.sequence } }
 
 -- whatever port takes its place, the grandmaster goes on
 pub goes_on_lent : (i : ℕ) (port : MemoryPort) (gm : KeptGm MemoryPort) → GoesOn gm (with_port i port gm)

@@ -1,7 +1,7 @@
 -- The datagrams of a port, one after the other.
-use Rattle.std.proofs.Common.{◌≡◌, ◌∙◌, ℕ, suc, ◌+◌, ◌-◌, ◌<◌, ◌≤◌, List, [], ◌∷◌, length, drop, map, refl, sym, ap, add-one, arith, drop-cons, length-append, Some}
-use Rattle.std.specs.List.{slice_get}
-use Rattle.std.proofs.lemmas.{List.{drop_all}, Option.{slice_get_within, get_or_from_slice_get}}
+use Rattle.std.proofs.Common.{◌≡◌, ◌∙◌, ℕ, suc, ◌+◌, ◌-◌, ◌<◌, ◌≤◌, List, [], ◌∷◌, length, drop, map, sym, ap, add-one, arith, drop-cons, length-append, Some}
+use Rattle.std.{specs.List.{slice_get}, proofs.lemmas.List.{drop_all, nil_from_length}}
+use Rattle.std.proofs.lemmas.Option.{slice_get_within, get_or_from_slice_get}
 use Rattle.ptu_outside.specs.{Departure.{Departure}, MemoryPort.{MemoryPort}}
 use Rattle.ptu_report_lines.specs.declared.sent.Sent.{Sent}
 use Rattle.ptu_world.specs.World.{sent_from}
@@ -50,12 +50,8 @@ all_sent ip handed before old now so_far none =
 
 -- ---- from a port in which nothing stands
 
-none_stands : (l : List Departure) → length l ≤ 0 → l ≡ []
-none_stands [] few = refl
-none_stands (d ∷ l) few = absurd (omega (arith, few))
-
 pub nothing : (ip : ℕ) (port : MemoryPort) (noted : Noted) → length port.sent ≤ 0 → noted ≡ with_handed ip port.sent noted
-nothing ip port noted few = sym (ap (λ l. with_handed ip l noted) (none_stands port.sent few) ∙ sent_nothing noted)
+nothing ip port noted few = sym (ap (λ l. with_handed ip l noted) (nil_from_length port.sent (omega (arith, few))) ∙ sent_nothing noted)
 
 pub cleared : (port : MemoryPort) → length port.sent ≤ 0 → port ≡ record port { sent = [] }
-cleared port few = ap (λ l. record port { sent = l }) (none_stands port.sent few)
+cleared port few = ap (λ l. record port { sent = l }) (nil_from_length port.sent (omega (arith, few)))

@@ -1,17 +1,14 @@
 -- How many octets the messages of a grandmaster have.
 use Rattle.std.proofs.Common.{◌≡◌, ◌∙◌, ℕ, ◌+◌, ◌*◌, ◌%◌, ◌≤◌, List, [], ◌∷◌, ◌++◌, length, map, refl, ap, arith, length-append}
 use Rattle.std.specs.List.{AllByRecursion, flat_map}
-use Rattle.ptu_units.specs.declared.{client.Client.{Client}, kind.Kind.{Kind}}
+use Rattle.ptu_units.specs.{declared.{client.Client.{Client}, kind.Kind.{Kind}}, Kind.{code_of}}
 use Rattle.ptu_units.specs.declared.kind.Kind.TheVariants as kinds
-use Rattle.ptu_units.specs.Kind.{code_of}
 use Rattle.ptu_outside.specs.Departure.{Departure}
 use Rattle.ptu_messages.specs.declared.header.{Header.{Header}, PortIdentity.{PortIdentity}}
-use Rattle.ptu_messages.specs.HeaderSent.{sent_header, sent_identity}
-use Rattle.ptu_messages.specs.declared.tlv.Tlv.{Tlv}
-use Rattle.ptu_messages.specs.declared.tlv.Tlv.TheVariants.{Request, Grant, Cancel, Ack, Other}
-use Rattle.ptu_messages.specs.TlvsSent.{sent_tlv}
+use Rattle.ptu_messages.specs.{HeaderSent.{sent_header, sent_identity}, declared.tlv.Tlv.{Tlv}}
+use Rattle.ptu_messages.specs.{declared.tlv.Tlv.TheVariants.{Cancel}, TlvsSent.{sent_tlv}}
 use Rattle.ptu_messages.specs.declared.message.Message.{Message as Timed}
-use Rattle.ptu_messages.specs.Sent.{octets_sent, sent_body}
+use Rattle.ptu_messages.specs.Sent.{octets_sent, sent_body, signaling}
 use Rattle.ptu_messages.proofs.Sending.{length-sent_tlv-le}
 use Rattle.ptu_history.specs.Events.{Message}
 use Rattle.ptu_profile.specs.declared.grandmaster.GmConfig.{GmConfig}
@@ -53,12 +50,15 @@ tlvs_octets (tlv ∷ tlvs) =
     let one : length (tlv ∷ tlvs) * 12 ≡ 12 + length tlvs * 12 = omega arith in
     rw one (omega (arith, length-append (sent_tlv tlv) (flat_map sent_tlv tlvs), length-sent_tlv-le tlv, tlvs_octets tlvs))
 
-pub signaling_octets : (config : GmConfig) (ip : ℕ) (target : PortIdentity) (sequence : ℕ) (tlvs : List Tlv) →
-    length (signaling_to config ip target sequence tlvs).bytes ≤ 44 + length tlvs * 12
-signaling_octets config ip target sequence tlvs =
+pub signaling_length : (header : Header) (target : PortIdentity) (tlvs : List Tlv) → length (octets_sent (signaling header target tlvs)) ≤ 44 + length tlvs * 12
+signaling_length header target tlvs =
     let body : length (sent_identity target ++ flat_map sent_tlv tlvs) ≡ 10 + length (flat_map sent_tlv tlvs) =
     length-append (sent_identity target) (flat_map sent_tlv tlvs) in
-    omega (arith, message_octets (signaling_of config target sequence tlvs), body, tlvs_octets tlvs)
+    omega (arith, message_octets (signaling header target tlvs), body, tlvs_octets tlvs)
+
+pub signaling_octets : (config : GmConfig) (ip : ℕ) (target : PortIdentity) (sequence : ℕ) (tlvs : List Tlv) →
+    length (signaling_to config ip target sequence tlvs).bytes ≤ 44 + length tlvs * 12
+signaling_octets config ip target sequence tlvs = signaling_length (signaling_of config target sequence tlvs).header target tlvs
 
 -- ---- CANCELs
 

@@ -2,11 +2,7 @@ pub mod Noting
 pub mod HandedOver
 pub mod GrandmasterPorts
 pub mod Lengths
-pub mod Items
 pub mod ShedCounts
 pub mod Surely
 pub mod Rooms
 pub mod GrandmasterDone
-pub mod GrandmasterTurns
-pub mod GrandmasterChanges
-pub mod GrandmasterReceipts

@@ -96,12 +96,9 @@ none_counted p before (x ∷ xs) none =
 counts_deed : (n : ℕ) (p : Statement → Bool) (said sends added : List Statement) → count_by p sends ≡ 0
     → counted_on (counted_on n (count_by p said)) (count_by p added) ≡ counted_on n (count_by p (said ++ sends ++ added))
 counts_deed n p said sends added none =
-    sym (on_more n (count_by p said) (count_by p added)) ∙ sym (ap (counted_on n) (
-    sum_by-append (λ s. cond (p s) 1 0) (said ++ sends) added
-    ∙ ap (λ k. k + count_by p added) (sum_by-append (λ s. cond (p s) 1 0) said sends ∙ ap (λ k. count_by p said + k) none ∙ plus_none (count_by p said))))
-  where
-    plus_none : (a : ℕ) → a + 0 ≡ a
-    plus_none a = omega arith
+    let all : count_by p said + count_by p added ≡ count_by p (said ++ sends ++ added) =
+    omega (arith, none, sum_by-append (λ (s : Statement). cond (p s) 1 0) (said ++ sends) added, sum_by-append (λ (s : Statement). cond (p s) 1 0) said sends) in
+    sym (on_more n (count_by p said) (count_by p added)) ∙ ap (counted_on n) all
 
 -- what stands in a journal after a deed
 module _ (ip : ℕ) (deed : Deed) (noted : Noted) where
@@ -120,19 +117,9 @@ module _ (ip : ℕ) (deed : Deed) (noted : Noted) where
       ∙ ap (λ l. l ++ map (text_at noted.line) deed.added) (sym (map-append (text_at noted.line) deed.said sends))
       ∙ sym (map-append (text_at noted.line) (deed.said ++ sends) deed.added))
 
-  pub deed_granted : (with_deed ip deed noted).granted ≡ counted_on noted.granted (count_by is_granted (said_by noted.sent ip deed))
-  deed_granted = counts_deed noted.granted is_granted deed.said sends deed.added (none_counted is_granted before (map (sent_from ip) deed.sends) (λ n x. refl))
-
-  pub deed_short : (with_deed ip deed noted).short ≡ counted_on noted.short (count_by is_short (said_by noted.sent ip deed))
-  deed_short = counts_deed noted.short is_short deed.said sends deed.added (none_counted is_short before (map (sent_from ip) deed.sends) (λ n x. refl))
-
-  -- where it counted a number as far as a count goes, it counts what the deed adds to that number likewise
-  pub counted_granted : (n : ℕ) → noted.granted ≡ counted n → (with_deed ip deed noted).granted ≡ counted (n + count_by is_granted (said_by noted.sent ip deed))
-  counted_granted n is =
-      let k : ℕ = count_by is_granted (said_by noted.sent ip deed) in
-      deed_granted ∙ ap (λ m. counted_on m k) is ∙ on_counted n k
-
-  pub counted_short : (n : ℕ) → noted.short ≡ counted n → (with_deed ip deed noted).short ≡ counted (n + count_by is_short (said_by noted.sent ip deed))
-  counted_short n is =
-      let k : ℕ = count_by is_short (said_by noted.sent ip deed) in
-      deed_short ∙ ap (λ m. counted_on m k) is ∙ on_counted n k
+  -- a count of a number, as far as a count goes, is one of the number with what the deed adds; no sending is counted
+  pub counted_deed : (p : Statement → Bool) → ((k : ℕ) (x : Sent) → p (statements.Sent k x) ≡ false) → (count n : ℕ) → count ≡ counted n
+      → counted_on (counted_on count (count_by p deed.said)) (count_by p deed.added) ≡ counted (n + count_by p (said_by noted.sent ip deed))
+  counted_deed p none count n is =
+      let k : ℕ = count_by p (said_by noted.sent ip deed) in
+      counts_deed count p deed.said sends deed.added (none_counted p before (map (sent_from ip) deed.sends) none) ∙ ap (λ m. counted_on m k) is ∙ on_counted n k

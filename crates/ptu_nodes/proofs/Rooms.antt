@@ -1,68 +1,80 @@
--- By which port a datagram may be answered: its first octet says it.
-use Rattle.std.proofs.Common.{◌≡◌, ◌∙◌, ℕ, List, Bool, true, false, ◌==◌, if◌then◌else◌, refl, sym, ap, arith, Result, Ok, Err}
-use Rattle.std.specs.Prelude.{OnOk}
-use Rattle.std.proofs.lemmas.Bool.{eq-eqb, eqb-true, true≢false}
+-- What may be heard in a datagram: its first octet says by which port it may be answered, and one reply answers all its items.
+use Rattle.std.proofs.Common.{◌≡◌, ◌∙◌, ℕ, ◌≤◌, List, Bool, true, false, ◌==◌, if◌then◌else◌, length, refl, sym, ap, arith, Result, Ok, Err}
+use Rattle.std.{specs.Prelude.{OnOk}, proofs.lemmas.Bool.{eq-eqb, eqb-true, true≢false}}
 use Rattle.ptu_units.specs.Number.{low_nibble_at}
 use Rattle.ptu_outside.specs.MemoryPort.{MemoryPort}
-use Rattle.ptu_messages.specs.declared.header.Header.{Header}
-use Rattle.ptu_messages.specs.declared.message.Body.{Body}
+use Rattle.ptu_messages.specs.declared.{header.Header.{Header}, fault.MessageFault.{MessageFault}}
+use Rattle.ptu_messages.specs.declared.message.{Body.{Body}, Message.{Message}}
 use Rattle.ptu_messages.specs.declared.message.Body.TheVariants as body
-use Rattle.ptu_messages.specs.declared.message.Message.{Message}
-use Rattle.ptu_messages.specs.{declared.fault.MessageFault.{MessageFault}, Message.{SpellsMessage}}
-use Rattle.ptu_messages.specs.Reading.{message_in}
+use Rattle.ptu_messages.specs.{Message.{SpellsMessage}, Reading.{message_in}}
 use Rattle.ptu_messages.proofs.Readings.{found_is}
-use Rattle.ptu_profile.specs.declared.grandmaster.GmConfig.{GmConfig}
-use Rattle.ptu_profile.specs.Target.{is_target}
-use Rattle.ptu_gm_messages.specs.declared.heard.Heard.{Heard}
+use Rattle.ptu_profile.specs.{declared.grandmaster.GmConfig.{GmConfig}, Target.{is_target}}
+use Rattle.ptu_gm_messages.specs.declared.{heard.Heard.{Heard}, item.Item.{Item}}
 use Rattle.ptu_gm_messages.specs.declared.heard.Heard.TheVariants as heard
-use Rattle.ptu_gm_messages.specs.declared.{item.Item.{Item}, reason.GmReason.{GmReason}}
+use Rattle.ptu_gm_messages.{specs.declared.reason.GmReason.{GmReason}, proofs.Octets.{few_among}}
 use Rattle.ptu_gm_messages.specs.declared.reason.GmReason.TheVariants as reasons
 use Rattle.ptu_gm_messages.specs.Items.{heard_by, heard_in, items_among, of_message, with_items}
 use Rattle.ptu_grandmaster.specs.Gm.{KeptGm}
 use Rattle.ptu_nodes.specs.GrandmasterPorts.{HasRoom, HasResponseRoom, HasRoomToAnswer}
 
--- what a datagram's messageType leaves room for
-abbrev HasRoomOfType : ℕ → KeptGm MemoryPort → Type 0
-HasRoomOfType t gm = (t ≡ 1 → HasResponseRoom gm) × (t ≡ 12 → HasRoom 1 428 gm.reply)
-
-for_target : (header : Header) (items : List Item) (mine own : Bool) (d : ℕ) (gm : KeptGm MemoryPort) → HasRoom 1 428 gm.reply →
-    HasRoomToAnswer (with_items header (if own then (if mine then Ok items else Err reasons.Target) else Err (reasons.Domain d))) gm
-for_target header items true true d gm room = room
-for_target header items false true d gm room = tt
-for_target header items mine false d gm room = tt
-
-for_domain : (header : Header) (own : Bool) (d : ℕ) (gm : KeptGm MemoryPort) → HasResponseRoom gm →
-    HasRoomToAnswer (if own then Ok (heard.DelayReq header) else Err (reasons.Domain d)) gm
-for_domain header true d gm room = room
-for_domain header false d gm room = tt
-
 -- the messageType of a message that was read is in its first octet
 type_of : (octets : List ℕ) (m : Message) → SpellsMessage octets m → m.header.message_type ≡ low_nibble_at octets 0
 type_of octets m h = ap (λ (header : Header). header.message_type) h.header.fields
 
-room_by_body : (config : GmConfig) (octets : List ℕ) (header : Header) (b : Body) (gm : KeptGm MemoryPort) →
-    SpellsMessage octets (record { header = header; body = b }) → HasRoomOfType (low_nibble_at octets 0) gm → HasRoomToAnswer (heard_by config header b) gm
-room_by_body config octets header (body.Signaling target tlvs) gm h room =
-    for_target header (items_among tlvs) (is_target config.identity target) (header.domain == config.domain) header.domain gm
-    (room.1 (sym (type_of octets _ h) ∙ h.kind))
-room_by_body config octets header (body.DelayReq stamp) gm h room =
-    for_domain header (header.domain == config.domain) header.domain gm (room.0 (sym (type_of octets _ h) ∙ h.kind))
-room_by_body config octets header (body.Sync stamp) gm h room = tt
-room_by_body config octets header (body.FollowUp stamp) gm h room = tt
-room_by_body config octets header (body.DelayResp stamp requester) gm h room = tt
-room_by_body config octets header (body.Announce announced) gm h room = tt
-room_by_body config octets header body.Ignored gm h room = tt
+-- what holds of each reason, of a Delay_Req and of at most 32 items holds of what is heard in the octets
+module _ (P : Result Heard GmReason → Type 0) (config : GmConfig) (octets : List ℕ) (refused : (reason : GmReason) → P (Err reason))
+    (delay : (header : Header) → low_nibble_at octets 0 ≡ 1 → P (Ok (heard.DelayReq header)))
+    (asks : (header : Header) (items : List Item) → low_nibble_at octets 0 ≡ 12 → length items ≤ 32 → P (Ok (heard.Asks header items))) where
+  for_target : (header : Header) (items : List Item) (mine own : Bool) (d : ℕ) → P (Ok (heard.Asks header items)) →
+      P (with_items header (if own then (if mine then Ok items else Err reasons.Target) else Err (reasons.Domain d)))
+  for_target header items true true d is = is
+  for_target header items false true d is = refused reasons.Target
+  for_target header items mine false d is = refused (reasons.Domain d)
 
-room_in : (config : GmConfig) (octets : List ℕ) (gm : KeptGm MemoryPort) (found : Result Message MessageFault) → message_in octets ≡ found →
-    HasRoomOfType (low_nibble_at octets 0) gm → HasRoomToAnswer (of_message (heard_by config) found) gm
-room_in config octets gm (Ok m) e room = room_by_body config octets m.header m.body gm (found_is octets m e) room
-room_in config octets gm (Err fault) e room = tt
+  for_domain : (header : Header) (own : Bool) (d : ℕ) → P (Ok (heard.DelayReq header)) → P (if own then Ok (heard.DelayReq header) else Err (reasons.Domain d))
+  for_domain header true d is = is
+  for_domain header false d is = refused (reasons.Domain d)
+
+  in_body : (header : Header) (b : Body) → SpellsMessage octets (record { header = header; body = b }) → P (heard_by config header b)
+  in_body header (body.Signaling target tlvs) h =
+      for_target header (items_among tlvs) (is_target config.identity target) (header.domain == config.domain) header.domain
+      (asks header (items_among tlvs) (sym (type_of octets _ h) ∙ h.kind) (omega (arith, few_among tlvs, h.body.1.few)))
+  in_body header (body.DelayReq stamp) h =
+      for_domain header (header.domain == config.domain) header.domain (delay header (sym (type_of octets _ h) ∙ h.kind))
+  in_body header body.Ignored h = refused (reasons.UnknownType header.message_type)
+  in_body header _ h = refused (reasons.Other header.message_type)
+
+  in_message : (found : Result Message MessageFault) → message_in octets ≡ found → P (of_message (heard_by config) found)
+  in_message (Ok m) e = in_body m.header m.body (found_is octets m e)
+  in_message (Err fault) e = refused (reasons.Fault fault)
+
+  in_heard : P (heard_in config octets)
+  unfolding heard_in
+  in_heard = in_message (message_in octets) refl
+
+-- ---- how many items
+
+-- one reply is enough
+abbrev pub AreFew : Result Heard GmReason → Type 0
+AreFew (Ok (heard.Asks header items)) = length items ≤ 32
+AreFew (Ok (heard.DelayReq header)) = Unit {0}
+AreFew (Err reason) = Unit {0}
+
+-- of a Signaling that was heard one reply answers all items
+pub few_heard : (config : GmConfig) (octets : List ℕ) → AreFew (heard_in config octets)
+few_heard config octets = in_heard AreFew config octets (λ reason. tt) (λ header is. tt) (λ header items is few. few)
+
+-- ---- by which port
+
+-- what a datagram's messageType leaves room for
+abbrev HasRoomOfType : ℕ → KeptGm MemoryPort → Type 0
+HasRoomOfType t gm = (t ≡ 1 → HasResponseRoom gm) × (t ≡ 12 → HasRoom 1 428 gm.reply)
 
 -- there is room to answer a datagram where there is room for what its first octet may ask
 room_to_answer : (config : GmConfig) (octets : List ℕ) (gm : KeptGm MemoryPort) → HasRoomOfType (low_nibble_at octets 0) gm →
     HasRoomToAnswer (heard_in config octets) gm
-unfolding heard_in
-room_to_answer config octets gm room = room_in config octets gm (message_in octets) refl room
+room_to_answer config octets gm room =
+    in_heard (λ h. HasRoomToAnswer h gm) config octets (λ reason. tt) (λ header is. room.0 is) (λ header items is few. room.1 is)
 
 pub room_of_responses : {T E : Type 0} (r : Result T E) (octets : List ℕ) (gm : KeptGm MemoryPort) → (low_nibble_at octets 0 == 1) ≡ true →
     OnOk r (HasResponseRoom gm) → OnOk r ((config : GmConfig) → HasRoomToAnswer (heard_in config octets) gm)

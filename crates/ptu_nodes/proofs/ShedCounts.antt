@@ -1,55 +1,37 @@
 -- A change of capacity sheds at most as many grants as there are rows.
-use Rattle.std.proofs.Common.{◌≡◌, inl, ℕ, zero, suc, ◌+◌, ◌<◌, ◌≤◌, List, [], ◌∷◌, ◌++◌, Bool, true, false, cond, not, ltb, length, map, refl, sym, ap, subst, arith, length-append}
-use Rattle.std.specs.List.{Contains, filter}
-use Rattle.std.proofs.lemmas.List.{length-map}
+use Rattle.std.proofs.Common.{◌≡◌, inl, ℕ, zero, suc, ◌+◌, ◌<◌, ◌≤◌, List, [], ◌∷◌, ◌++◌, not, length, map, refl, sym, ap, subst, arith, length-append}
+use Rattle.std.{specs.List.{Contains, filter}, proofs.lemmas.List.Sorted.{length_permutation}}
+use Rattle.std.proofs.lemmas.{List.{length-map}, List.Filters.{length-filter_both}}
 use Rattle.std.proofs.lemmas.List.Elements.{Contains-append_left, Contains-append_right}
-use Rattle.std.proofs.lemmas.List.Sorted.{length_permutation}
-use Rattle.ptu_units.specs.declared.kind.Kind.{Kind}
+use Rattle.ptu_units.specs.{declared.{kind.Kind.{Kind}, client.Client.{Client}}, Client.{table_of}}
 use Rattle.ptu_outside.specs.MemoryPort.{MemoryPort}
-use Rattle.ptu_units.specs.{declared.client.Client.{Client}, Client.{table_of}}
-use Rattle.ptu_history.specs.{Core.{book_step_moment}, History.{Record}}
+use Rattle.ptu_units.proofs.Keys.{same_lease-refl}
+use Rattle.ptu_history.{specs.{Core.{book_step_moment}, History.{Record}}, proofs.Members.{Differ}}
 use Rattle.ptu_history.specs.Live.{Grant, IsLastDecision, is_of, live_grants, without}
 use Rattle.ptu_history.specs.{Moments.{book_moment}, Order.{in_order}}
 use Rattle.ptu_history.specs.Shedding.{shed_cmp, shed_grants, shed_order, shed_prefix}
-use Rattle.ptu_units.proofs.Keys.{same_lease-refl}
-use Rattle.ptu_history.proofs.Members.{Differ}
-use Rattle.ptu_history.proofs.Moments.{book_step_moment-bounds}
+use Rattle.ptu_history.proofs.{Moments.{book_step_moment-bounds}, Standing.{Contains-filter}}
 use Rattle.ptu_history.proofs.Order.{IsPermutation-in_order, shed_prefix-rest}
 use Rattle.ptu_history.proofs.{Orders.{live_distinct, live_members}, Rates.{table_below}}
-use Rattle.ptu_history.proofs.Standing.{Contains-filter}
 use Rattle.ptu_history.proofs.Unique.{Apart, Apart-from_pairs, Contains-first, Contains-later}
 use Rattle.ptu_shard.specs.{declared.lease.Row.{Row}, Table.{StandsAt}}
 use Rattle.ptu_admit.specs.{declared.shed_list.Shed.{Shed}, Newest.{grant_of}, Rows.{live_rows}}
-use Rattle.ptu_admit.specs.Shed.{shed_of}
-use Rattle.ptu_admit.proofs.Grants.{row_of_live}
-use Rattle.ptu_shard.proofs.SoFar.{length-filter-le}
-use Rattle.ptu_shard.proofs.Standing.{is_live_row}
+use Rattle.ptu_admit.{specs.Shed.{shed_of}, proofs.Grants.{row_of_live}}
 use Rattle.ptu_admit.proofs.Sums.{Contains-map, IsMapped}
+use Rattle.ptu_shard.proofs.{SoFar.{length-filter-le}, Standing.{is_live_row}}
 use Rattle.ptu_grandmaster.specs.{Changed.{AreShedAt, leases_shed}, Gm.{KeptGm, StandsFor}}
 use Rattle.ptu_nodes.specs.GrandmasterPorts.{rows_kept}
 
 -- ---- distinct grants within others are no more
 
-length-parts : (p : Grant → Bool) (gs : List Grant) → length (filter p gs) + length (filter (λ g. not (p g)) gs) ≡ length gs
-length-parts p [] = refl
-length-parts p (g ∷ gs) = at (p g) (length-parts p gs)
-  where
-    at : (b : Bool) → length (filter p gs) + length (filter (λ g. not (p g)) gs) ≡ length gs →
-        length (cond b (g ∷ filter p gs) (filter p gs)) + length (cond (not b) (g ∷ filter (λ g. not (p g)) gs) (filter (λ g. not (p g)) gs)) ≡ length (g ∷ gs)
-    at true ih = omega (arith, ih)
-    at false ih = omega (arith, ih)
-
-one_at_least : (gs : List Grant) (g : Grant) → Contains gs g → 1 ≤ length gs
-one_at_least gs g (i, lt, h) = omega (arith, lt)
-
 length-within : (xs ys : List Grant) → Apart Differ xs → ((g : Grant) → Contains xs g → Contains ys g) → length xs ≤ length ys
 length-within [] ys apart inside = omega arith
 length-within (x ∷ xs) ys apart inside =
     let own : 1 ≤ length (filter (is_of x.client x.kind) ys) =
-    one_at_least (filter (is_of x.client x.kind) ys) x (Contains-filter (is_of x.client x.kind) ys x (inside x (Contains-first x xs)) (same_lease-refl x.client x.kind)) in
+    omega (arith, (Contains-filter (is_of x.client x.kind) ys x (inside x (Contains-first x xs)) (same_lease-refl x.client x.kind)).1) in
     let ih : length xs ≤ length (without x.client x.kind ys) = length-within xs (without x.client x.kind ys) apart.1 (λ g h.
     Contains-filter (λ g. not (is_of x.client x.kind g)) ys g (inside g (Contains-later x xs g h)) (ap not (apart.0 g h))) in
-    omega (arith, own, ih, length-parts (is_of x.client x.kind) ys)
+    omega (arith, own, ih, length-filter_both (is_of x.client x.kind) (λ g. not (is_of x.client x.kind g)) (λ _. refl) ys)
 
 -- ---- the grants of rows
 
@@ -58,9 +40,6 @@ grants_in x rows = map grant_of (live_rows x rows)
 
 grants_few : (x : ℕ) (rows : List Row) → length (grants_in x rows) ≤ length rows
 grants_few x rows = omega (arith, length-map (live_rows x rows) grant_of, length-filter-le (is_live_row x) rows)
-
-there : (x : ℕ) (rows : List Row) (g : Grant) → IsMapped grant_of (live_rows x rows) g → Contains (grants_in x rows) g
-there x rows g m = subst (λ z. Contains (grants_in x rows) z) m.is (Contains-map grant_of (live_rows x rows) m.from m.contained)
 
 -- after a history that the grandmaster stands for each grant that is live has its row
 module _ (opening : ℕ) (gm : KeptGm MemoryPort) (history : List Record) (stood : StandsFor opening gm history) (x : ℕ) (reached : book_moment history ≤ x) where
@@ -81,7 +60,9 @@ module _ (opening : ℕ) (gm : KeptGm MemoryPort) (history : List Record) (stood
 
   module _ (g : Grant) (last : IsLastDecision history g) (before : x < g.until) where
     in_table : (j : ℕ) (rows : List Row) (moment : ℕ) → StandsAt (book_moment history) j rows moment history → table_of g.client ≡ j → Contains (grants_in x rows) g
-    in_table j rows moment s own = there x rows g (row_of_live (book_moment history) j rows moment history x s (inl reached) g last before own)
+    in_table j rows moment s own =
+        let m : IsMapped grant_of (live_rows x rows) g = row_of_live (book_moment history) j rows moment history x s (inl reached) g last before own in
+        subst (λ z. Contains (grants_in x rows) z) m.is (Contains-map grant_of (live_rows x rows) m.from m.contained)
 
     in_one : (j : ℕ) → table_of g.client ≡ j → j < 4 → Contains kept g
     in_one zero own lt =

@@ -2,31 +2,26 @@
 use Rattle.std.proofs.Common.{◌≡◌, ◌∙◌, ℕ, ◌*◌, ◌<◌, ◌≤◌, ◌==◌, List, [], ◌∷◌, Bool, true, false, cond, length, map, refl, sym, ap, subst, arith, Result, Ok, Err}
 use Rattle.std.specs.List.{filter}
 use Rattle.std.proofs.lemmas.{Bool.{ne_eqb}, List.{length-map}, List.Sorted.{length_permutation}}
-use Rattle.ptu_units.specs.declared.kind.Kind.{Kind}
+use Rattle.ptu_units.specs.{declared.{kind.Kind.{Kind}, client.Client.{Client}}, Client.{table_of}}
 use Rattle.ptu_outside.specs.{Departure.{Departure}, declared.port.Port.{Ghosts as Ports}}
 use Rattle.ptu_outside.specs.{HandsOver.{HandsOver}, MemoryPort.{IsSure, MemoryPort}}
 use Rattle.ptu_outside.proofs.{HandsOver.{hands_surely}, Sure.{octets_within, sure_within}}
 use Rattle.ptu_messages.specs.declared.header.Header.{Header}
-use Rattle.ptu_units.specs.{declared.client.Client.{Client}, Client.{table_of}}
 use Rattle.ptu_history.specs.Events as step
-use Rattle.ptu_history.specs.Events.{Answer}
-use Rattle.ptu_history.proofs.Order.{IsPermutation-in_order}
-use Rattle.ptu_shard.specs.declared.answered.Answered.{Answered}
+use Rattle.ptu_history.{specs.Events.{Answer}, proofs.Order.{IsPermutation-in_order}}
+use Rattle.ptu_shard.specs.{declared.{answered.Answered.{Answered}, lease.Row.{Row}}, Table.{Kept}}
 use Rattle.ptu_shard.specs.declared.answered.Answered.TheVariants as answers
 use Rattle.ptu_profile.specs.declared.grandmaster.GmConfig.{GmConfig}
-use Rattle.ptu_shard.specs.declared.lease.Row.{Row}
 use Rattle.ptu_shard.specs.Answered.{failed_by, met_by, moment_of_answer, responses, sent_by}
-use Rattle.ptu_shard.specs.{Messages.{departure_of, response_of}, Table.{Kept}}
+use Rattle.ptu_shard.{specs.Messages.{departure_of, response_of}, proofs.SoFar.{length-filter-le}}
 use Rattle.ptu_shard.specs.Turn.{due_messages, due_rows, is_due_row, message_of_row, row_cmp}
-use Rattle.ptu_shard.proofs.SoFar.{length-filter-le}
 use Rattle.ptu_gm_messages.specs.declared.heard.Heard.{Heard}
 use Rattle.ptu_gm_messages.specs.declared.heard.Heard.TheVariants as heard
 use Rattle.ptu_gm_messages.specs.declared.{item.Item.{Item}, reason.GmReason.{GmReason}}
 use Rattle.ptu_gm_messages.specs.{Deciding.{answer_to, client_of}, Replies.{cancels_to, reply_to}}
-use Rattle.ptu_grandmaster.specs.declared.outcome.Outcome.{Outcome}
+use Rattle.ptu_grandmaster.specs.declared.outcome.{Outcome.{Outcome}, Taken.{Taken}}
 use Rattle.ptu_outside.specs.declared.reply.Reply.{Reply}
 use Rattle.ptu_outside.specs.declared.reply.Reply.TheVariants as sending
-use Rattle.ptu_grandmaster.specs.declared.outcome.Taken.{Taken}
 use Rattle.ptu_grandmaster.specs.declared.outcome.Taken.TheVariants.{Ignored, Delay, Asked}
 use Rattle.ptu_grandmaster.specs.Gm.{KeptGm, port_at, table_at, with_port, with_table}
 use Rattle.ptu_grandmaster.specs.Outcomes.{answers_seen, decision_seen, decisions_seen, item_seen}
@@ -34,7 +29,7 @@ use Rattle.ptu_grandmaster.specs.Taking.{IsAnswerTo, OnAsked, OnDelay, OnIgnored
 use Rattle.ptu_nodes.specs.GrandmasterPorts.{HasReplyRoom, HasResponseRoom, HasRoom, HasRoomToAnswer}
 use Rattle.ptu_nodes.specs.GrandmasterStatements.{IsAnswerSent, IsReplySent, IsSent}
 use Rattle.ptu_nodes.specs.Standing.{AreSure}
-use Rattle.ptu_nodes.proofs.{GrandmasterPorts.{table_by, with_by}, Items.{AreFew}}
+use Rattle.ptu_nodes.proofs.{GrandmasterPorts.{each_table, table_by, with_by}, Rooms.{AreFew}}
 use Rattle.ptu_nodes.proofs.Lengths.{cancel_octets, cancels_many, each_of_turn, response_octets, signaling_octets}
 
 -- ---- the ports of a grandmaster
@@ -45,14 +40,8 @@ sure_with false true two table gm (e0, e1, e2, e3, e4) none = (e0, none, e2, e3,
 sure_with false false true table gm (e0, e1, e2, e3, e4) none = (e0, e1, none, e3, e4)
 sure_with false false false table gm (e0, e1, e2, e3, e4) none = (e0, e1, e2, none, e4)
 
-sure_by : (zero one two : Bool) (gm : KeptGm MemoryPort) → AreSure gm → (table_by zero one two gm).port.failing_sends ≡ []
-sure_by true one two gm (e0, e1, e2, e3, e4) = e0
-sure_by false true two gm (e0, e1, e2, e3, e4) = e1
-sure_by false false true gm (e0, e1, e2, e3, e4) = e2
-sure_by false false false gm (e0, e1, e2, e3, e4) = e3
-
-pub sure_table : (j : ℕ) (gm : KeptGm MemoryPort) → AreSure gm → (table_at j gm).port.failing_sends ≡ []
-sure_table j gm sure = sure_by (j == 0) (j == 1) (j == 2) gm sure
+sure_table : (j : ℕ) (gm : KeptGm MemoryPort) → AreSure gm → (table_at j gm).port.failing_sends ≡ []
+sure_table j gm sure = each_table (λ (table : Kept MemoryPort). table.port.failing_sends ≡ []) (j == 0) (j == 1) (j == 2) gm sure.0 sure.1 sure.2 sure.3
 
 -- of a grandmaster one table has changed
 pub sure_changed : (j : ℕ) (old new : KeptGm MemoryPort) → AreSure old → new ≡ with_table j (table_at j new) old → (table_at j new).port.failing_sends ≡ [] → AreSure new
@@ -76,11 +65,8 @@ port_of_table j gm lt = ap (λ b. cond b gm.reply (table_at j gm).port) (ne_eqb 
 
 rows_by : (four zero one two : Bool) (port : MemoryPort) (gm : KeptGm MemoryPort) →
     (table_by zero one two (cond four (record gm { reply = port }) (with_by zero one two (record (table_by zero one two gm) { port = port }) gm))).rows ≡ (table_by zero one two gm).rows
-rows_by true zero one two port gm = refl
-rows_by false true one two port gm = refl
-rows_by false false true two port gm = refl
-rows_by false false false true port gm = refl
 rows_by false false false false port gm = refl
+rows_by _ _ _ _ port gm = refl
 
 -- a table of which the port was lent has its rows
 pub rows_lent : (j : ℕ) (port : MemoryPort) (old new : KeptGm MemoryPort) → new ≡ with_port j port old → (table_at j new).rows ≡ (table_at j old).rows
@@ -118,12 +104,6 @@ sure_of_response (step.TooSoon earliest) d port none room is = sure_within port 
 
 -- ---- no send fails
 
-room_by : (zero one two : Bool) (gm : KeptGm MemoryPort) → HasResponseRoom gm → HasRoom 1 54 (table_by zero one two gm).port
-room_by true one two gm room = room.0
-room_by false true two gm room = room.1
-room_by false false true gm room = room.2
-room_by false false false gm room = room.3
-
 -- with room for either answer there is room for the one that comes
 pub room_for_one : (h : Result Heard GmReason) (gm : KeptGm MemoryPort) → HasReplyRoom gm → HasRoomToAnswer h gm
 room_for_one (Ok (heard.DelayReq header)) gm room = room.tables
@@ -131,10 +111,8 @@ room_for_one (Ok (heard.Asks header items)) gm room = room.reply
 room_for_one (Err reason) gm room = tt
 
 answer_sent : (answered : Answered) → failed_by answered ≡ 0 → IsAnswerSent answered
-answer_sent (answers.Sent at) none = tt
 answer_sent (answers.Failed at) none = absurd (omega (arith, none))
-answer_sent (answers.NoGrant at) none = tt
-answer_sent (answers.TooSoon at earliest) none = tt
+answer_sent _ none = tt
 
 module _ (ports : Ports MemoryPort) (to : (p : MemoryPort) (ds : List Departure) → IsSure p ds → ports.is_sure p ds) (from : (p : MemoryPort) → ports.is_sure p [] → IsSure p []) where
   -- a port that is sure to send all has sent all, and none of its sends is to fail
@@ -175,7 +153,7 @@ module _ (ports : Ports MemoryPort) (to : (p : MemoryPort) (ds : List Departure)
       let j : ℕ = table_of c in
       let d : Departure = response_of config (moment_of_answer answered) c header in
       let both = surely_handed (table_at j gm1).port (table_at j gm2).port (responses (met_by answered) d) (sent_by answered) (failed_by answered) h.0
-      (sure_of_response (met_by answered) d (table_at j gm1).port (sure_table j gm1 sure) (room_by (j == 0) (j == 1) (j == 2) gm1 room) (response_octets config (moment_of_answer answered) c header)) in
+      (sure_of_response (met_by answered) d (table_at j gm1).port (sure_table j gm1 sure) (each_table (λ (table : Kept MemoryPort). HasRoom 1 54 table.port) (j == 0) (j == 1) (j == 2) gm1 room.0 room.1 room.2 room.3) (response_octets config (moment_of_answer answered) c header)) in
       (answer_sent answered both.0, sure_changed j gm1 gm2 sure h.1 both.1)
 
   reply_surely : (config : GmConfig) (from_ip : ℕ) (header : Header) (items : List Item) (outcomes : List Outcome) (reply : Reply) (old new : MemoryPort) →

@@ -2,9 +2,8 @@
 use Rattle.std.specs.Prelude.{◌≡◌, ℕ, ◌+◌, ◌≤◌, List, ◌++◌, length, Result, Ok, Err}
 use Rattle.ptu_outside.specs.{Departure.{Departure}, MemoryPort.{MemoryPort, departure_octets}}
 use Rattle.ptu_history.specs.History.{Record}
-use Rattle.ptu_gm_messages.specs.declared.heard.Heard.{Heard}
+use Rattle.ptu_gm_messages.specs.declared.{heard.Heard.{Heard}, reason.GmReason.{GmReason}}
 use Rattle.ptu_gm_messages.specs.declared.heard.Heard.TheVariants as heard
-use Rattle.ptu_gm_messages.specs.declared.reason.GmReason.{GmReason}
 use Rattle.ptu_grandmaster.specs.Gm.{KeptGm, StandsFor}
 
 -- the datagrams that stand in the ports, by port

@@ -4,10 +4,9 @@ use Rattle.ptu_shard.specs.declared.answered.Answered.{Answered}
 use Rattle.ptu_shard.specs.declared.answered.Answered.TheVariants as answers
 use Rattle.ptu_shard.specs.Answered.{met_by, moment_of_answer}
 use Rattle.ptu_admit.specs.declared.shed_list.Shed.{Shed}
-use Rattle.ptu_grandmaster.specs.declared.outcome.Outcome.{Outcome}
+use Rattle.ptu_grandmaster.specs.declared.outcome.{Outcome.{Outcome}, Taken.{Taken}}
 use Rattle.ptu_outside.specs.declared.reply.Reply.{Reply}
 use Rattle.ptu_outside.specs.declared.reply.Reply.TheVariants as replies
-use Rattle.ptu_grandmaster.specs.declared.outcome.Taken.{Taken}
 use Rattle.ptu_grandmaster.specs.declared.outcome.Taken.TheVariants.{Ignored, Delay, Asked}
 use Rattle.ptu_grandmaster.specs.Outcomes.{decision_seen}
 use Rattle.ptu_report_lines.specs.declared.statement.Statement.{Statement}

@@ -18,8 +18,7 @@ use Rattle.ptu_script.specs.declared.command.GrandmasterSetup.{GrandmasterSetup}
 use Rattle.ptu_world.specs.{Deeds.{Grandmaster}, Grandmasters.{datagram_deed, turn_deed}}
 use Rattle.ptu_nodes.specs.GrandmasterPorts.{HasReplyRoom, HasRoom, in_ports}
 use Rattle.ptu_nodes.specs.{GrandmasterStatements.{IsSent}, Standing.{AreIdle, AreSure, setup_config}}
-use Rattle.ptu_nodes.proofs.GrandmasterReceipts.{sends_heard, told_all}
-use Rattle.ptu_nodes.proofs.{GrandmasterTurns.{sends_turned}, Items.{few_heard}}
+use Rattle.ptu_nodes.proofs.{GrandmasterDone.{sends_heard, sends_turned, told_all}, Rooms.{few_heard}}
 use Rattle.ptu_nodes.proofs.Surely.{room_for_one, surely_taken, surely_turned}
 use Rattle.ptu_pool_run.specs.declared.output.PoolLine.TheVariants as lines
 use Rattle.ptu_pool_run.specs.Output.{pool_line_text}

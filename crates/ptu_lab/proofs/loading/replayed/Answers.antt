@@ -1,5 +1,5 @@
 use Rattle.std.proofs.Common.{◌+◌, refl}
-use Rattle.ptu_lab.proofs.LoadCounts.{causes, numbers}
+use Rattle.ptu_lab.proofs.LabReplaying.{causes, numbers}
 use Rattle.ptu_show.proofs.Whole.{whole_script}
 use Rattle.ptu_lab.proofs.loading.replayed.Goals as goal
 

@@ -1,8 +1,6 @@
-use Rattle.std.proofs.Common.{refl}
-use Rattle.std.specs.Fmt.{digits}
+use Rattle.std.{proofs.Common.{refl}, specs.Fmt.{digits}}
 use Rattle.hex.specs.Hex.{decode_pairs, encode_with}
-use Rattle.ptu_messages.specs.HeaderReading.{header_in}
-use Rattle.ptu_messages.specs.TlvsReading.{tlv_in}
+use Rattle.ptu_messages.specs.{HeaderReading.{header_in}, TlvsReading.{tlv_in}, Sent.{octets_sent}}
 use Rattle.ptu_messages.specs.Reading.{tlvs_in, body_in, message_in}
 use Rattle.ptu_history.specs.Core.{table_step_moment, book_step_moment, history_after}
 use Rattle.ptu_history.specs.{Counts.{counts}, History.{lease_records, capacity_in_force}}
@@ -12,7 +10,6 @@ use Rattle.ptu_history.specs.Moments.{book_moment, table_moment}
 use Rattle.ptu_history.specs.Runs.{root, chain, sent_in_chain, sequence_number}
 use Rattle.ptu_history.specs.{Shedding.{shed_order, shed_grants}, Step.{delay_answer}}
 use Rattle.ptu_history.specs.{Turns.{due_grants}, Verdict.{others, own_rate, verdict}}
-use Rattle.ptu_messages.specs.Sent.{octets_sent}
 use Rattle.ptu_gm_messages.specs.{Deciding.{placed}, Items.{items_in, heard_in}}
 use Rattle.ptu_script.specs.Command.{grandmaster_in, slave_in, fields_in, command_of}
 use Rattle.ptu_world.specs.World.{step}

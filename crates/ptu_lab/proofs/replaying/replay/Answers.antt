@@ -4,8 +4,7 @@ use Rattle.ptu_world.specs.Report.{course_opening, rules}
 use Rattle.ptu_world.proofs.{Counting.{granted_within, short_within}, Reported.{texts_of_rules}}
 use Rattle.ptu_slave.specs.Seen.{seen}
 use Rattle.ptu_lab.specs.Steps.{stock_of}
-use Rattle.ptu_lab.proofs.LabReplaying.{has_replayed, numbers_told, replayed}
-use Rattle.ptu_lab.proofs.KeepingHeadline.{keeps_headline}
+use Rattle.ptu_lab.proofs.LabReplaying.{has_replayed, keeps_headline, numbers_told, replayed}
 use Rattle.ptu_lab.proofs.replaying.replay.Goals as goal
 
 pub returns-in-Ok-clause-whole : goal.returns-in-Ok-clause-whole

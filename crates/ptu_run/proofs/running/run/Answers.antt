@@ -10,7 +10,7 @@ use Rattle.ptu_run.specs.Run.{HasRun, IsOfLab, status_of}
 use Rattle.ptu_lab.specs.Steps.{stock_of}
 use Rattle.ptu_run.proofs.{Answered.{none_answered, zero_at_end}, Audited.{audit_completes}}
 use Rattle.ptu_run.proofs.Completed.{completed}
-use Rattle.ptu_lab.proofs.KeepingHeadline.{keeps_headline}
+use Rattle.ptu_lab.proofs.LabReplaying.{keeps_headline}
 use Rattle.ptu_pool_run.proofs.Promising.{keeps_pools}
 use Rattle.ptu_run.proofs.running.run.Goals as goal
 

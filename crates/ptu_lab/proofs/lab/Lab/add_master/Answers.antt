@@ -1,8 +1,7 @@
 use Rattle.std.proofs.Common.{◌≡◌, ◌∙◌, ◌<◌, ℕ, false, is_some, refl, sym, ap, le-leb, leb}
-use Rattle.std.specs.Prelude.{nat_eq}
-use Rattle.std.proofs.lemmas.Bool.{lt-leb}
+use Rattle.std.{specs.Prelude.{nat_eq}, proofs.lemmas.Bool.{lt-leb}}
 use Rattle.ptu_slave.specs.Seen.{seen}
-use Rattle.ptu_lab.proofs.LabMasters.{added, has_it, is_full, means, no_judge, no_slave, put_back, too_late}
+use Rattle.ptu_lab.proofs.LabSettingUp.{added, has_it, is_full, means, no_judge, no_slave, put_back, too_late}
 use Rattle.ptu_lab.proofs.lab.Lab.add_master.Goals as goal
 
 few : (n : ℕ) → n < 16 → leb 16 n ≡ false

@@ -3,7 +3,7 @@ use Rattle.ptu_script.specs.declared.command.Command.TheVariants as commands
 use Rattle.ptu_slave.specs.Seen.{seen}
 use Rattle.ptu_nodes.specs.Noted.{Noted}
 use Rattle.ptu_lab.specs.{Standing.{StandsFor}, Steps.{HasStepped}}
-use Rattle.ptu_lab.proofs.{LabCommands.{act_within}, LabNodes.{at_line}}
+use Rattle.ptu_lab.proofs.LabNodes.{act_within, at_line}
 use Rattle.ptu_lab.proofs.lab.Lab.obey.Goals as goal
 
 pub returns-in-Grandmaster : goal.returns-in-Grandmaster

@@ -4,8 +4,7 @@ use Rattle.ptu_slave.specs.Seen.{seen}
 use Rattle.ptu_world.specs.Report.{outcome_by}
 use Rattle.ptu_world.specs.World as world
 use Rattle.ptu_nodes.specs.Noted.{Noted}
-use Rattle.ptu_lab.specs.Standing.{StandsFor}
-use Rattle.ptu_lab.proofs.LabReplaying.{handed_texts, texts_aside}
+use Rattle.ptu_lab.{specs.Standing.{StandsFor}, proofs.LabReplaying.{handed_texts, texts_aside}}
 use Rattle.ptu_lab.proofs.lab.Lab.step.Goals as goal
 
 pub obey-requires-clause-means : goal.obey-requires-clause-means

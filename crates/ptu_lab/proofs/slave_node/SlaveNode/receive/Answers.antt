@@ -1,7 +1,6 @@
 use Rattle.std.proofs.Common.{◌∙◌, sym}
 use Rattle.ptu_slave.specs.Seen.{seen}
-use Rattle.ptu_lab.proofs.SlaveEvents.{on_ok_both}
-use Rattle.ptu_lab.proofs.SlaveHearing.{event_received, nothing_received}
+use Rattle.ptu_lab.proofs.SlaveEvents.{event_received, nothing_received, on_ok_both}
 use Rattle.ptu_lab.proofs.slave_node.SlaveNode.receive.Goals as goal
 
 pub returns-then-was_ignored-clause-done : goal.returns-then-was_ignored-clause-done

@@ -1,6 +1,5 @@
 use Rattle.std.proofs.Common.{sym}
-use Rattle.ptu_nodes.specs.Standing.{StandsAsGrandmaster}
-use Rattle.ptu_nodes.proofs.GrandmasterDone.{class_changed}
+use Rattle.ptu_nodes.{specs.Standing.{StandsAsGrandmaster}, proofs.GrandmasterDone.{class_changed}}
 use Rattle.ptu_nodes.proofs.grandmaster_node.GrandmasterNode.act.Goals as goal
 
 pub returns-in_ok-receive-in-Receive-clause-acted : goal.returns-in_ok-receive-in-Receive-clause-acted

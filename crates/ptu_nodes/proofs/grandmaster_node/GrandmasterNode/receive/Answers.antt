@@ -1,6 +1,6 @@
 use Rattle.std.proofs.Common.{refl}
-use Rattle.ptu_nodes.proofs.{GrandmasterDone.{on_ok_four}, GrandmasterReceipts.{take_done}}
-use Rattle.ptu_nodes.proofs.{Items.{few_heard}, Surely.{surely_taken}}
+use Rattle.ptu_nodes.proofs.{GrandmasterDone.{on_ok_four, take_done}, Rooms.{few_heard}}
+use Rattle.ptu_nodes.proofs.Surely.{surely_taken}
 use Rattle.ptu_nodes.proofs.grandmaster_node.GrandmasterNode.receive.Goals as goal
 
 pub returns-clause-done : goal.returns-clause-done

@@ -1,9 +1,8 @@
 use Rattle.std.proofs.Common.{arith, rules, ◌≡◌, ◌∙◌, ◌*◌, ◌≤◌, length, ap, sym}
 use Rattle.ptu_outside.proofs.HandsOver.{hands_whole}
 use Rattle.ptu_grandmaster.specs.Changed.{leases_shed}
-use Rattle.ptu_nodes.specs.GrandmasterPorts.{rows_kept}
-use Rattle.ptu_nodes.proofs.{GrandmasterDone.{on_ok_four}, GrandmasterChanges.{change_done}}
-use Rattle.ptu_nodes.proofs.{ShedCounts.{cancels_few}, Surely.{surely_cancelled}}
+use Rattle.ptu_nodes.{specs.GrandmasterPorts.{rows_kept}, proofs.Surely.{surely_cancelled}}
+use Rattle.ptu_nodes.proofs.{GrandmasterDone.{change_done, on_ok_four}, ShedCounts.{cancels_few}}
 use Rattle.ptu_nodes.proofs.grandmaster_node.GrandmasterNode.set_capacity.Goals as goal
 
 pub returns-clause-done : goal.returns-clause-done

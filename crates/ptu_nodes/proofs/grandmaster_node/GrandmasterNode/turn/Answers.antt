@@ -1,9 +1,8 @@
 use Rattle.std.proofs.Common.{arith, rules, ◌≡◌, ◌∙◌, ◌*◌, ◌≤◌, length, ap, sym, subst}
-use Rattle.ptu_outside.specs.MemoryPort.{MemoryPort}
-use Rattle.ptu_outside.proofs.HandsOver.{hands_whole}
+use Rattle.ptu_outside.{specs.MemoryPort.{MemoryPort}, proofs.HandsOver.{hands_whole}}
 use Rattle.ptu_grandmaster.specs.Gm.{table_at}
 use Rattle.ptu_nodes.specs.GrandmasterPorts.{HasRoom}
-use Rattle.ptu_nodes.proofs.{GrandmasterDone.{on_ok_four}, GrandmasterTurns.{turn_done}}
+use Rattle.ptu_nodes.proofs.GrandmasterDone.{on_ok_four, turn_done}
 use Rattle.ptu_nodes.proofs.Surely.{port_of_table, rows_lent, surely_turned}
 use Rattle.ptu_nodes.proofs.grandmaster_node.GrandmasterNode.turn.Goals as goal
 
