@@ -11,7 +11,7 @@ ghost use Rattle.ptu_admit.specs.Verdict.{IsAt, IsFor, OnOutside, config_of, ver
 
 use crate::book::Book;
 use crate::profile::Wanted;
-use crate::verdict::{Grant, Shortage, Verdict};
+use crate::verdict::{Grant, Lack, Shortage, Terms, Verdict};
 use ptu_outside::Port;
 use ptu_profile::GmConfig;
 use ptu_shard::{Lease, Shard};
@@ -144,7 +144,14 @@ pub(crate) fn grant<P: Port>(
     );
     book.settle(before, shard.held());
     book.reach(at);
-    Grant::new(*client, wanted, at, seconds, until)
+    Grant::new(Terms {
+        kind: wanted.kind,
+        log: wanted.log,
+        seconds,
+        at,
+        until,
+        client: *client,
+    })
 }
 
 /// Decides an ask within the profile, on the client's table, at the table's moment, where the rows
@@ -184,6 +191,13 @@ pub(crate) fn decide_swept<P: Port>(
         Verdict::Granted(grant(shard, book, config, at, client, wanted))
     } else {
         book.reach(at);
-        Verdict::Short(Shortage::new(wanted, at, others, rate, capacity))
+        Verdict::Short(Shortage::new(Lack {
+            kind: wanted.kind,
+            log: wanted.log,
+            at,
+            others,
+            rate,
+            capacity,
+        }))
     }
 }
