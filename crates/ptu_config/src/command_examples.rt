@@ -1,7 +1,7 @@
 //! What datagrams of a control port ask, for any key and by example, and texts of answers. Each
 //! clause is a law or computes; the bodies are empty.
 
-ghost use Rattle.std.specs.Prelude.{◌≡◌, ◌↔◌, ◌++◌, ◌∷◌, [], ℕ, List, codes, true, false, Some, None, Ok, Err, IsSome};
+ghost use Rattle.std.specs.Prelude.{◌≡◌, ◌↔◌, ◌++◌, ◌∷◌, [], ℕ, List, map, codes, true, false, Some, None, Ok, Err, IsSome};
 ghost use Rattle.std.specs.List.{list_all};
 ghost use Rattle.ptu_lines.specs.{Script.{is_plain}, Words.{clock_of}};
 ghost use Rattle.ptu_config.specs.Answers.{reply_text};
@@ -96,12 +96,10 @@ pub fn stops()
 
 /// The texts of answers, one of each kind, and each cause.
 pub fn answers()
-    ensures done { reply_text Reply.Done ≡ codes "ok\n" }
-    ensures shed { reply_text (Reply.Shed 12) ≡ codes "ok\nshed 12\n" }
-    ensures none_shed { reply_text (Reply.Shed 0) ≡ codes "ok\nshed 0\n" }
-    ensures words { reply_text (Reply.Bad Cause.Words) ≡ codes "bad words\n" }
-    ensures class { reply_text (Reply.Bad Cause.Class) ≡ codes "bad class\n" }
-    ensures capacity { reply_text (Reply.Bad Cause.Capacity) ≡ codes "bad capacity\n" }
+    ensures kinds { map reply_text (Reply.Done ∷ Reply.Shed 12 ∷ Reply.Shed 0
+        ∷ Reply.Bad Cause.Words ∷ Reply.Bad Cause.Class ∷ Reply.Bad Cause.Capacity ∷ [])
+        ≡ codes "ok\n" ∷ codes "ok\nshed 12\n" ∷ codes "ok\nshed 0\n"
+        ∷ codes "bad words\n" ∷ codes "bad class\n" ∷ codes "bad capacity\n" ∷ [] }
     ensures status { reply_text (Reply.Stands (record {
       class = 84;
       capacity = 640;
