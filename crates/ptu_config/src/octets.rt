@@ -5,7 +5,7 @@ ghost use Rattle.ptu_outside.specs.Ends.{StopsAtEnd};
 ghost use Rattle.ptu_config.specs.Reading.{CountsRead, HasTaken, HasTakenSome, IsNoRefusal};
 
 use crate::document::LONGEST_SETTINGS;
-use crate::setup_fault::SetupFault;
+use crate::fault::SetupFault;
 use ptu_outside::{Source, read_behind};
 use std::alloc::Global;
 
