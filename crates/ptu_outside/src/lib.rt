@@ -50,5 +50,5 @@ pub use reply::Reply;
 pub use sends::Sends;
 pub use sink::{Sink, write_whole};
 pub use source::{Source, read_behind};
-pub use standard::{StdSink, StdSource};
+pub use standard::{Counted, StdSink, StdSource};
 pub use tally::Tally;
