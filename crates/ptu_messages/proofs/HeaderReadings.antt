@@ -6,6 +6,7 @@ use Rattle.ptu_messages.specs.declared.header_fault.HeaderFault.TheVariants.{Sho
 use Rattle.ptu_units.specs.Number.{number_at, high_nibble_at, low_nibble_at}
 use Rattle.ptu_messages.specs.{Header.{SpellsHeader, header_at}, HeaderReading.{by_length, header_in}}
 use Rattle.ptu_messages.specs.HeaderFault.{HasHeaderFault}
+use Rattle.ptu_messages.specs.Exact.{IsOneReading, IsSpelling}
 use Rattle.ptu_messages.proofs.Exact as exact
 
 abbrev IsHeader : List ℕ → Type 0
@@ -92,8 +93,11 @@ header_in-faulty octets (Length said have) h =
 
 -- ---- and nothing else
 
-pub found_is : (octets : List ℕ) (header : Header) (n : ℕ) → header_in octets ≡ Ok (header, n) → SpellsHeader octets header n
-found_is = exact.found_is Header HeaderFault header_in SpellsHeader HasHeaderFault one_or_other header_in-spelled header_in-faulty
+pub is_spelling : IsSpelling header_in SpellsHeader HasHeaderFault
+is_spelling = exact.is_spelling Header HeaderFault header_in SpellsHeader HasHeaderFault one_or_other header_in-spelled header_in-faulty
 
-pub refused_is : (octets : List ℕ) (fault : HeaderFault) → header_in octets ≡ Err fault → HasHeaderFault octets fault
-refused_is = exact.refused_is Header HeaderFault header_in SpellsHeader HasHeaderFault one_or_other header_in-spelled header_in-faulty
+pub one_reading : IsOneReading SpellsHeader HasHeaderFault
+one_reading = exact.one_reading Header HeaderFault header_in SpellsHeader HasHeaderFault one_or_other header_in-spelled header_in-faulty
+
+pub found_is : (octets : List ℕ) (header : Header) (n : ℕ) → header_in octets ≡ Ok (header, n) → SpellsHeader octets header n
+found_is octets header n = (is_spelling.found octets header n).0

@@ -10,6 +10,7 @@ use Rattle.ptu_messages.specs.declared.tlvs_fault.TlvFault.{TlvFault}
 use Rattle.ptu_messages.specs.declared.tlvs_fault.TlvFault.TheVariants.{Short, Overrun, Length}
 use Rattle.ptu_messages.specs.Tlv.{HasHead, IsFirst, SpellsTlv, BeginsWithTlv, ask_at, renewal_at}
 use Rattle.ptu_messages.specs.{TlvFault.{HasOtherLength, HasTlvFault}, TlvsReading.{whole_in, tlv_in}}
+use Rattle.ptu_messages.specs.Exact.{IsOneReading, IsSpelling}
 use Rattle.ptu_messages.proofs.Exact as exact
 
 -- ---- the head of a front is the head of the whole
@@ -189,17 +190,11 @@ one_or_other octets =
 
 -- ---- and nothing else
 
-pub found_is : (octets : List ℕ) (tlv : Tlv) (size : ℕ) → tlv_in octets ≡ Ok (tlv, size) → BeginsWithTlv octets tlv size
-found_is = exact.found_is Tlv TlvFault tlv_in BeginsWithTlv HasTlvFault one_or_other tlv_in-spelled tlv_in-faulty
+pub is_spelling : IsSpelling tlv_in BeginsWithTlv HasTlvFault
+is_spelling = exact.is_spelling Tlv TlvFault tlv_in BeginsWithTlv HasTlvFault one_or_other tlv_in-spelled tlv_in-faulty
 
-pub refused_is : (octets : List ℕ) (fault : TlvFault) → tlv_in octets ≡ Err fault → HasTlvFault octets fault
-refused_is = exact.refused_is Tlv TlvFault tlv_in BeginsWithTlv HasTlvFault one_or_other tlv_in-spelled tlv_in-faulty
-
-pub never_both : (octets : List ℕ) (tlv : Tlv) (size : ℕ) (fault : TlvFault) → BeginsWithTlv octets tlv size → HasTlvFault octets fault → ⊥
-never_both = exact.never_both Tlv TlvFault tlv_in BeginsWithTlv HasTlvFault one_or_other tlv_in-spelled tlv_in-faulty
-
-pub one_tlv : (octets : List ℕ) (v v' : Tlv) (size size' : ℕ) → BeginsWithTlv octets v size → BeginsWithTlv octets v' size' → (v ≡ v') × (size ≡ size')
-one_tlv = exact.one_value Tlv TlvFault tlv_in BeginsWithTlv HasTlvFault one_or_other tlv_in-spelled tlv_in-faulty
+pub one_reading : IsOneReading BeginsWithTlv HasTlvFault
+one_reading = exact.one_reading Tlv TlvFault tlv_in BeginsWithTlv HasTlvFault one_or_other tlv_in-spelled tlv_in-faulty
 
 -- ---- a fault of the first TLV is a fault of the octets
 
