@@ -86,7 +86,6 @@ returns-clause-alone g c = λ history s.
     let n : ℕ = c.latest-at.result in
     let j : ℕ = table_of c.args.client.now in
     let le : c.args.shard.now.moment ≤ n = omega arith in
-    let before : book_moment history ≤ c.args.shard.now.moment = s.reached in
     let moment : c.grant.new.shard.moment ≡ n = c.grant.ensures.moments.0 in
     alone_one j n c.args.shard.now c.grant.new.shard history (Granted n c.args.client.now c.in-Ok.wanted.kind c.in-Ok.wanted.log c.grant.result.until) s le (omega (arith, moment)) refl refl (refl, le)
-    (c.grant.ensures.stands (book_moment history) j history s.stands refl (omega (arith, before, le)))
+    (c.grant.ensures.stands (book_moment history) j history s.stands refl (omega (arith, s.reached, le)))

@@ -61,8 +61,7 @@ returns-clause-alone g c = λ history s.
     let n : ℕ = c.latest-at.result in
     let j : ℕ = table_of c.args.client.now in
     let reached : c.args.shard.now.moment ≤ n = omega arith in
-    let before : book_moment history ≤ c.args.shard.now.moment = s.reached in
-    let top : max (book_moment history) n ≡ n = omega (arith, before, reached) in
+    let top : max (book_moment history) n ≡ n = omega (arith, s.reached, reached) in
     let after = history ++ Ended n c.args.client.now c.args.kind ∷ [] in
     let stands : StandsAt n j c.remove-ended.new.self.rows c.remove-ended.new.self.moment after =
     subst (λ m. StandsAt m j c.remove-ended.new.self.rows c.remove-ended.new.self.moment after) top
