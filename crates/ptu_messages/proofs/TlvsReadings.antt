@@ -27,19 +27,18 @@ head_is_taken size octets le = record {
 
 -- ---- the tlvType and the lengthField of a TLV
 
+abbrev fields_of : Tlv → ℕ × ℕ
+fields_of (Request ask) = (4, 6)
+fields_of (Grant ask invited) = (5, 8)
+fields_of (Cancel code) = (6, 2)
+fields_of (Ack code) = (7, 2)
+fields_of (Other kind n) = (kind, n)
+
 abbrev type_of : Tlv → ℕ
-type_of (Request ask) = 4
-type_of (Grant ask invited) = 5
-type_of (Cancel code) = 6
-type_of (Ack code) = 7
-type_of (Other kind n) = kind
+type_of tlv = (fields_of tlv).0
 
 abbrev length_of : Tlv → ℕ
-length_of (Request ask) = 6
-length_of (Grant ask invited) = 8
-length_of (Cancel code) = 2
-length_of (Ack code) = 2
-length_of (Other kind n) = n
+length_of tlv = (fields_of tlv).1
 
 head_of : (octets : List ℕ) (tlv : Tlv) → SpellsTlv octets tlv → HasHead octets (type_of tlv) (length_of tlv)
 head_of octets (Request ask) h = h.0
