@@ -16,17 +16,17 @@ gm_document capacity =
     (member (codes "ip") (string (codes "127.0.0.1"))
     (member (codes "rounds") (integer (pos 1)) no_members)))
 
--- the settings of that document with the capacity 8, and with so many rounds, so many times over
-abbrev pub repeated : ℕ → ℕ → GmSettings
-repeated rounds repeat = record {
+-- the settings of that document with the capacity 8
+abbrev pub gm_defaults : GmSettings
+gm_defaults = record {
   ip = 2130706433;
   event_port = 319;
   general_port = 320;
   clock = 720575940379279361;
   port = 1;
   domain = 4;
-  rounds = rounds;
-  repeat = repeat;
+  rounds = 1;
+  repeat = 1;
   class = 84;
   capacity = 8;
   max_duration = 1000;
@@ -39,9 +39,9 @@ repeated rounds repeat = record {
   control_key = None;
 }
 
--- those settings as the document has them, where one round is done once
-abbrev pub gm_defaults : GmSettings
-gm_defaults = repeated 1 1
+-- those settings with so many rounds, so many times over
+abbrev pub repeated : ℕ → ℕ → GmSettings
+repeated rounds repeat = record gm_defaults { rounds = rounds; repeat = repeat }
 
 -- that document with one member more
 abbrev pub gm_with : List ℕ → Data → Members
