@@ -3,13 +3,11 @@
 
 ghost use Rattle.std.specs.Prelude.{◌≡◌};
 ghost use Rattle.ptu_config.specs.Refusals.{setup_fault};
-ghost use Rattle.ptu_config.specs.declared.fault.SettingFault.TheVariants.{OutOfMemory as NoMemory};
-ghost use Rattle.ptu_config.specs.declared.fault.SetupFault.TheVariants as setup_faults;
+ghost use Rattle.ptu_config.specs.declared.fault.SetupFault.TheVariants.{OutOfMemory as NoMemory, Read as HasFailed};
 
 use crate::key::Key;
 use crate::refusal::RefusalLine;
 use ptu_outside::Failed;
-use ptu_units::OutOfMemory;
 use std::alloc::AllocError;
 use thiserror::Error;
 
@@ -33,14 +31,6 @@ pub enum SettingFault {
     OutOfMemory,
 }
 
-impl From<OutOfMemory> for SettingFault {
-    ghost from_gives = { λ _ fault. fault ≡ NoMemory };
-
-    fn from(_: OutOfMemory) -> SettingFault {
-        SettingFault::OutOfMemory
-    }
-}
-
 /// Why there are no settings.
 #[derive(Clone, Copy, Debug, PartialEq, Eq, Error)]
 pub enum SetupFault {
@@ -56,7 +46,7 @@ pub enum SetupFault {
 }
 
 impl From<Failed> for SetupFault {
-    ghost from_gives = { λ _ fault. fault ≡ setup_faults.Read };
+    ghost from_gives = { λ _ fault. fault ≡ HasFailed };
 
     fn from(_: Failed) -> SetupFault {
         SetupFault::Read
@@ -64,7 +54,7 @@ impl From<Failed> for SetupFault {
 }
 
 impl From<AllocError> for SetupFault {
-    ghost from_gives = { λ _ fault. fault ≡ setup_faults.OutOfMemory };
+    ghost from_gives = { λ _ fault. fault ≡ NoMemory };
 
     fn from(_: AllocError) -> SetupFault {
         SetupFault::OutOfMemory
