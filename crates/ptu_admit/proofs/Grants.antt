@@ -5,17 +5,15 @@ use Rattle.std.proofs.lemmas.Bool.{eq-eqb, eqb-true, lt-ltb, ltb-true, not-true}
 use Rattle.std.proofs.lemmas.List.{Filters.{sum_by-filter_both}, Kept.{AllPairs-filter}}
 use Rattle.ptu_units.specs.{declared.kind.Kind.{Kind}, Log.{rate_of}}
 use Rattle.ptu_units.specs.{declared.client.Client.{Client}, Client.{table_of}}
-use Rattle.ptu_history.specs.History.{Record, Granted}
+use Rattle.ptu_history.specs.{History.{Record, Granted}, Verdict.{own_rate, rate_sum, table_rates}}
 use Rattle.ptu_history.specs.Live.{Grant, IsLastDecision, last_decision, live_grants}
-use Rattle.ptu_history.specs.Verdict.{own_rate, rate_sum, table_rates}
 use Rattle.ptu_units.proofs.Keys.{same_lease-true}
 use Rattle.ptu_history.proofs.Lists.{filter-all, filter-comm}
 use Rattle.ptu_history.proofs.{Members.{Differ}, Orders.{live_distinct, live_members}}
 use Rattle.ptu_history.proofs.{Rates.{own_rate-live, own_rate-none}, Standing.{Contains-filter}}
 use Rattle.ptu_history.proofs.Unique.{Apart, Apart-from_pairs, Contains-from_filter}
-use Rattle.ptu_shard.specs.declared.lease.{Lease.{Lease}, Row.{Row}}
+use Rattle.ptu_shard.specs.{declared.lease.{Lease.{Lease}, Row.{Row}}, Table.{Kept, StandsAt}}
 use Rattle.ptu_shard.specs.Row.{IsDistinctByLease, is_row_of, lease_of, share_of, without_row}
-use Rattle.ptu_shard.specs.Table.{Kept, StandsAt}
 use Rattle.ptu_shard.proofs.RowLists as rows
 use Rattle.ptu_shard.proofs.RowLists.{IsPresent, lease_cases, present_some, share_of-filter-le}
 use Rattle.ptu_shard.proofs.{Standing.{granted_row, is_live_row, stands_swept}, Turns.{live_kept}}

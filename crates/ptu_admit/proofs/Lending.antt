@@ -4,19 +4,16 @@ use Rattle.std.proofs.lemmas.Bool.{eq-eqb, eqb-true, false_from_ne_true, falseâ‰
 use Rattle.ptu_units.specs.declared.kind.Kind.{Kind}
 use Rattle.ptu_units.specs.{declared.client.Client.{Client}, Client.{table_of}}
 use Rattle.ptu_history.specs.History.{Record, Granted, Short, Ended, Shed, capacity_in_force, concerns, is_change, is_decision, moment_of}
-use Rattle.ptu_history.specs.Moments.{book_moment, book_part, table_part}
+use Rattle.ptu_history.specs.{Moments.{book_moment, book_part, table_part}, Verdict.{table_rates}}
 use Rattle.ptu_history.specs.Live.{Grant, IsLastDecision, last_decision, live_grants, standing}
-use Rattle.ptu_history.specs.Verdict.{table_rates}
 use Rattle.ptu_units.proofs.Keys.{same_lease-true}
-use Rattle.ptu_history.proofs.Capacities.{capacity_in_force-unchanged}
+use Rattle.ptu_history.proofs.{Capacities.{capacity_in_force-unchanged}, Standing.{last_pushed}}
 use Rattle.ptu_history.proofs.{Moments.{book_moment-one}, Rates.{table_below}}
-use Rattle.ptu_history.proofs.Standing.{last_pushed}
 use Rattle.ptu_shard.specs.{declared.lease.Row.{Row}, Row.{share_of}, Table.{Kept, StandsAt}}
 use Rattle.ptu_shard.proofs.RowLists.{same_permuted, share_of-filter-le}
 use Rattle.ptu_shard.proofs.Standing.{stands_elsewhere, stands_same, stands_swept}
-use Rattle.ptu_admit.specs.Book.{KeptBook}
+use Rattle.ptu_admit.specs.{Book.{KeptBook}, Rows.{live_rows}, Tables.{IsSwept}}
 use Rattle.ptu_admit.specs.Lent.{EachStandsAt, Lent, StandFor, four, is_elsewhere, is_lent, rates_elsewhere, shares}
-use Rattle.ptu_admit.specs.{Rows.{live_rows}, Tables.{IsSwept}}
 use Rattle.ptu_admit.proofs.Grants.{elsewhere-fewer, elsewhere-within, table_rates-le}
 
 -- the lent tables, a capacity and a total beside a book that has reached the moment

@@ -5,9 +5,8 @@ use Rattle.std.proofs.lemmas.Bool.{le-leb, lt-leb, lt-ltb}
 use Rattle.std.proofs.lemmas.List.Elements.{Contains-append_cases, Contains-append_left, Contains-append_right}
 use Rattle.std.proofs.lemmas.List.Sorted.{sum_by-IsPermutation}
 use Rattle.ptu_units.specs.Client.{same_lease, table_of}
-use Rattle.ptu_history.specs.History.{Granted, Record, Shed}
+use Rattle.ptu_history.specs.{History.{Granted, Record, Shed}, Order.{in_order}, Verdict.{rate_sum}}
 use Rattle.ptu_history.specs.Live.{Grant, IsLastDecision, last_decision, live_grants}
-use Rattle.ptu_history.specs.{Order.{in_order}, Verdict.{rate_sum}}
 use Rattle.ptu_history.specs.Shedding.{shed_cmp, shed_order, shed_prefix}
 use Rattle.ptu_units.proofs.Keys.{same_lease-sym, same_lease-true}
 use Rattle.ptu_history.proofs.Members.{Differ}
@@ -17,14 +16,12 @@ use Rattle.ptu_history.proofs.{Rates.{rates-tables, table_below}, Standing.{last
 use Rattle.ptu_history.proofs.Unique.{Apart-from_pairs, Contains-cons_cases, Contains-first, Contains-from_filter, Contains-later, pairs_from_Apart}
 use Rattle.ptu_shard.specs.{declared.lease.Row.{Row}, Row.{share_of}, Table.{Kept, StandsAt}}
 use Rattle.ptu_shard.proofs.RowLists.{share_of-filter-le}
-use Rattle.ptu_admit.specs.declared.newest.Found.{Found}
+use Rattle.ptu_admit.specs.{declared.newest.Found.{Found}, Rows.{live_rows}}
 use Rattle.ptu_admit.specs.Lent.{EachStandsAt, Lent, four, lent_as, rows_of_lent, shares}
 use Rattle.ptu_admit.specs.Newest.{AreListed, all_found, candidate_of, found_in, grant_of}
-use Rattle.ptu_admit.specs.Rows.{live_rows}
 use Rattle.ptu_admit.proofs.Grants.{live_share, row_of_live, table_rates-le}
-use Rattle.ptu_admit.proofs.Candidates.{NotAfter}
+use Rattle.ptu_admit.proofs.{Candidates.{NotAfter}, Verdicts.{FourDistinct}}
 use Rattle.ptu_admit.proofs.Sums.{Contains-from_map, Contains-map, IsMapped, rate}
-use Rattle.ptu_admit.proofs.Verdicts.{FourDistinct}
 
 -- one more in front of a sorted list
 sorted_front : (g : Grant) (gs : List Grant) → ((m : Grant) → Contains gs m → is_lt (shed_cmp m g) ≡ false) → IsSorted shed_cmp gs → IsSorted shed_cmp (g ∷ gs)

@@ -8,8 +8,7 @@ use Rattle.ptu_units.specs.{declared.kind.Kind.{Kind}, Log.{rate_of}}
 use Rattle.ptu_units.specs.{declared.client.Client.{Client}, Client.{same_lease}}
 use Rattle.ptu_history.specs.{Live.{Grant, is_of, without}, Verdict.{rate_sum}}
 use Rattle.ptu_units.proofs.Keys.{same_lease-refl, same_lease-true}
-use Rattle.ptu_history.proofs.Members.{Differ}
-use Rattle.ptu_history.proofs.Standing.{Contains-filter}
+use Rattle.ptu_history.proofs.{Members.{Differ}, Standing.{Contains-filter}}
 use Rattle.ptu_history.proofs.Unique.{Apart, Apart-from_pairs, Contains-cons_cases, Contains-first, Contains-later}
 use Rattle.ptu_laws.proofs.Sums.{sum-filter}
 use Rattle.ptu_shard.specs.declared.lease.{Row.{Row}, Lease.{Lease}}

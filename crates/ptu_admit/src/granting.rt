@@ -2,11 +2,9 @@
 
 ghost use Rattle.std.specs.Prelude.{◌≡◌, ◌≢◌, ℕ, ◌+◌, ◌-◌, ◌*◌, ◌≤◌, ◌<◌, min, nat_le, List, [], ◌∷◌, ◌++◌, IfSome, IfNone};
 ghost use Rattle.ptu_units.specs.{Client.{table_of}, Log.{period_of, rate_of}, Time.{second}};
-ghost use Rattle.ptu_admit.specs.Book.{IsInForce};
-ghost use Rattle.ptu_history.specs.History.{Granted, Record};
-ghost use Rattle.ptu_history.specs.Step.{verdict_records};
+ghost use Rattle.ptu_admit.specs.{Book.{IsInForce}, Rows.{kept_rate}, Tables.{KeepsPort}};
+ghost use Rattle.ptu_history.specs.{History.{Granted, Record}, Step.{verdict_records}};
 ghost use Rattle.ptu_shard.specs.{Row.{IsDistinctByLease, share_of}, Table.{StandsBeside}};
-ghost use Rattle.ptu_admit.specs.{Rows.{kept_rate}, Tables.{KeepsPort}};
 ghost use Rattle.ptu_admit.specs.Verdict.{IsAt, IsFor, OnOutside, config_of, verdict_of, verdict_on};
 
 use crate::book::Book;

@@ -4,12 +4,10 @@
 ghost use Rattle.std.specs.Prelude.{◌≡◌, ◌↔◌, ◌++◌, ◌∷◌, [], ℕ, List, map, codes, true, false, Some, None, Ok, Err, IsSome};
 ghost use Rattle.std.specs.List.{list_all};
 ghost use Rattle.ptu_lines.specs.{Script.{is_plain}, Words.{clock_of}};
-ghost use Rattle.ptu_config.specs.Answers.{reply_text};
+ghost use Rattle.ptu_config.specs.{Answers.{reply_text}, Examples.{asked_by, asked_with}};
 ghost use Rattle.ptu_config.specs.Commands.{order_asked, is_stop_order, request_line, word_or_empty};
-ghost use Rattle.ptu_config.specs.Examples.{asked_by, asked_with};
 ghost use Rattle.ptu_config.specs.declared.command.Command.{Command};
-ghost use Rattle.ptu_config.specs.declared.command.Cause.{Cause};
-ghost use Rattle.ptu_config.specs.declared.answer.Reply.{Reply};
+ghost use Rattle.ptu_config.specs.{declared.command.Cause.{Cause}, declared.answer.Reply.{Reply}};
 
 /// Whom a grandmaster heeds: who sends it a line of plain text that begins with its key. With any
 /// other key, or none, a datagram asks nothing.

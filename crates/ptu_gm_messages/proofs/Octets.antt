@@ -2,9 +2,8 @@
 use Rattle.std.proofs.Common.{ℕ, zero, suc, ◌+◌, ◌/◌, ◌<◌, ◌≤◌, List, [], ◌∷◌, ◌++◌, length, get_or, Option, Some, None, subst, arith}
 use Rattle.std.specs.{Prelude.{slice_index, slice_range}, List.{All}, List.{cons_option}}
 use Rattle.std.proofs.lemmas.List.Elements.{All-cons, All-drop, All-from_get_or, All-head, All-nil, All-tail, All-take}
-use Rattle.ptu_messages.specs.declared.tlv.Tlv.{Tlv}
+use Rattle.ptu_messages.specs.{declared.tlv.Tlv.{Tlv}, Tlv.{SpellsTlv}}
 use Rattle.ptu_messages.specs.declared.tlv.Tlv.TheVariants as tlv
-use Rattle.ptu_messages.specs.Tlv.{SpellsTlv}
 use Rattle.ptu_units.specs.Number.{high_nibble_at}
 use Rattle.ptu_messages.specs.Tlvs.{AreSpelled, SpellsTlvs}
 use Rattle.ptu_gm_messages.specs.declared.item.Item.{Item}

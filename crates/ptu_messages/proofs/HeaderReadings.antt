@@ -5,8 +5,7 @@ use Rattle.ptu_messages.specs.declared.{header.Header.{Header}, header_fault.Hea
 use Rattle.ptu_messages.specs.declared.header_fault.HeaderFault.TheVariants.{Short, Version, Sdo, Length}
 use Rattle.ptu_units.specs.Number.{number_at, high_nibble_at, low_nibble_at}
 use Rattle.ptu_messages.specs.{Header.{SpellsHeader, header_at}, HeaderReading.{by_length, header_in}}
-use Rattle.ptu_messages.specs.HeaderFault.{HasHeaderFault}
-use Rattle.ptu_messages.specs.Exact.{IsOneReading, IsSpelling}
+use Rattle.ptu_messages.specs.{HeaderFault.{HasHeaderFault}, Exact.{IsOneReading, IsSpelling}}
 use Rattle.ptu_messages.proofs.Exact as exact
 
 abbrev IsHeader : List ℕ → Type 0

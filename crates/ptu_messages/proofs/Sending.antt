@@ -9,13 +9,11 @@ use Rattle.ptu_units.proofs.{BigEndian.{number_at-octets_of}, Signs.{signed_at-o
 use Rattle.ptu_messages.specs.declared.header.{Header.{Header}, PortIdentity.{PortIdentity}}
 use Rattle.ptu_messages.specs.Header.{AlwaysSpellsHeader, HasIdentityWidths, SpellsHeader, identity_at}
 use Rattle.ptu_messages.specs.Header as headers
-use Rattle.ptu_messages.specs.HeaderSent.{sent_header, sent_identity}
-use Rattle.ptu_messages.proofs.HeaderSending.{sent_header_spells}
-use Rattle.ptu_messages.specs.declared.tlv.Tlv.{Tlv}
+use Rattle.ptu_messages.specs.{HeaderSent.{sent_header, sent_identity}, declared.tlv.Tlv.{Tlv}}
+use Rattle.ptu_messages.proofs.{HeaderSending.{sent_header_spells}, TlvsSending.{sent_tlv_spells}}
 use Rattle.ptu_messages.specs.declared.tlv.Tlv.TheVariants.{Request, Grant, Cancel, Ack, Other}
 use Rattle.ptu_messages.specs.Tlv.{HasWidths, SpellsTlv, AlwaysBeginsWithTlv}
 use Rattle.ptu_messages.specs.TlvsSent.{IsSendable, sent_tlv}
-use Rattle.ptu_messages.proofs.TlvsSending.{sent_tlv_spells}
 use Rattle.ptu_messages.specs.declared.message.{AnnounceBody.{AnnounceBody}, Body.{Body}}
 use Rattle.ptu_messages.specs.declared.message.Body.TheVariants.{Sync, DelayReq, FollowUp, DelayResp, Announce, Signaling, Ignored}
 use Rattle.ptu_messages.specs.{declared.message.Message.{Message}, Tlvs.{AreSpelled}}

@@ -1,9 +1,8 @@
 -- Headers that were made out by hand, field by field, and what the definitions say of them.
 use Rattle.std.specs.Prelude.{◌≡◌, ℕ, List, [], ◌∷◌, ◌++◌, take, replicate, slice_set, pos, negsuc}
-use Rattle.ptu_messages.specs.declared.header.Header.{Header}
+use Rattle.ptu_messages.specs.{declared.header.Header.{Header}, HeaderSent.{sent_header}}
 use Rattle.ptu_messages.specs.declared.header_fault.HeaderFault.TheVariants.{Short, Version, Sdo, Length}
 use Rattle.ptu_messages.specs.{Header.{SpellsHeader}, HeaderFault.{HasHeaderFault}}
-use Rattle.ptu_messages.specs.HeaderSent.{sent_header}
 
 -- a Signaling message of a client's port 1, of 54 octets in domain 4
 abbrev pub ask_header : Header

@@ -2,10 +2,9 @@
 //! function that does nothing.
 
 ghost use Rattle.std.specs.Prelude.{◌<◌, ◌≤◌, ◌^◌, ℕ, List, All};
-ghost use Rattle.ptu_messages.specs.Exact.{IsOneReading, IsSpelling};
+ghost use Rattle.ptu_messages.specs.{Exact.{IsOneReading, IsSpelling}, HeaderSent.{sent_header}};
 ghost use Rattle.ptu_messages.specs.Header.{HasWidths, SpellsHeader, AlwaysSpellsHeader};
 ghost use Rattle.ptu_messages.specs.{HeaderFault.{HasHeaderFault}, HeaderReading.{header_in}};
-ghost use Rattle.ptu_messages.specs.HeaderSent.{sent_header};
 ghost use Rattle.ptu_messages.specs.HeaderSamples.{HeadersAreSpelled, HeaderFaultsAreFound, HeadersAreSent};
 ghost use Rattle.ptu_messages.specs.declared.header.Header.{Header};
 

@@ -2,12 +2,11 @@
 //! function that does nothing.
 
 ghost use Rattle.std.specs.Prelude.{◌<◌, ℕ, List, All};
-ghost use Rattle.ptu_messages.specs.Exact.{IsOneReading, IsSpelling};
+ghost use Rattle.ptu_messages.specs.{Exact.{IsOneReading, IsSpelling}, declared.tlv.Tlv.{Tlv}};
 ghost use Rattle.ptu_messages.specs.Tlv.{HasWidths, SpellsTlv, BeginsWithTlv, AlwaysBeginsWithTlv};
 ghost use Rattle.ptu_messages.specs.{TlvFault.{HasTlvFault}, TlvsReading.{tlv_in}};
 ghost use Rattle.ptu_messages.specs.TlvsSent.{IsSendable, sent_tlv};
 ghost use Rattle.ptu_messages.specs.TlvsSamples.{TlvsAreSpelled, TlvFaultsAreFound, TlvsAreSent};
-ghost use Rattle.ptu_messages.specs.declared.tlv.Tlv.{Tlv};
 
 /// Every list of octets begins with one TLV of one size, or has one fault, and never both.
 pub fn one_tlv_reading()

@@ -8,9 +8,8 @@ use Rattle.std.specs.declared.cmp.{Ordering.TheVariants.{Less, Equal, Greater}, 
 use Rattle.std.proofs.lemmas.Bool.{false≢true, true≢false}
 use Rattle.std.proofs.lemmas.List.Elements.{All-from_recursion, All-map, All-weaker}
 use Rattle.ptu_units.specs.Client.{client_cmp, kind_cmp}
-use Rattle.ptu_shard.specs.declared.queue.Entry.{Entry}
+use Rattle.ptu_shard.specs.{declared.queue.Entry.{Entry}, Queue.{IsNoneBelow, entry_cmp}}
 use Rattle.ptu_shard.specs.contracts.queue.EntryOrd.TheImpl as entries
-use Rattle.ptu_shard.specs.Queue.{IsNoneBelow, entry_cmp}
 use Rattle.ptu_history.proofs.Order.{kind_cmp_is}
 
 entry_cmp_is : (a b : Entry) → entries.cmp-value.it a b ≡ entry_cmp a b

@@ -7,8 +7,7 @@ use Rattle.ptu_units.specs.{declared.client.Client.{Client}, Client.{same_lease,
 use Rattle.ptu_history.specs.History.{Record, Granted, concerns, is_decision, moment_of}
 use Rattle.ptu_history.specs.{Moments.{table_moment, table_part}, Live.{last_decision}}
 use Rattle.ptu_units.proofs.Keys.{same_lease-sym, same_lease-true}
-use Rattle.ptu_history.proofs.Moments.{table_moment-push}
-use Rattle.ptu_history.proofs.Standing.{Contains-filter, last_pushed}
+use Rattle.ptu_history.proofs.{Moments.{table_moment-push}, Standing.{Contains-filter, last_pushed}}
 use Rattle.ptu_history.proofs.Strangers.{earliest-push, sequence_number-push}
 use Rattle.ptu_history.proofs.Unique.{Contains-cons_cases, Contains-first, Contains-from_filter, Contains-later}
 use Rattle.ptu_shard.specs.declared.lease.{Lease.{Lease}, Row.{Row}}

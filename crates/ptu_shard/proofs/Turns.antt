@@ -13,10 +13,9 @@ use Rattle.ptu_history.specs.Live.{Grant, IsDistinctByLease, IsLastDecision, is_
 use Rattle.ptu_history.specs.{Runs.{sequence_number}, Lawful.{earliest, lawful}}
 use Rattle.ptu_history.specs.Turns.{due_grants, is_due, is_turned, message_of, sent_record, turn_cmp}
 use Rattle.ptu_units.proofs.Keys.{same_lease-refl, same_lease-true}
-use Rattle.ptu_history.proofs.Currents.{live-standing}
+use Rattle.ptu_history.proofs.{Currents.{live-standing}, Standing.{Contains-filter, standing-last}}
 use Rattle.ptu_history.proofs.Order.{IsAsymmetric-total, IsPermutation-in_order, IsSorted-in_order}
 use Rattle.ptu_history.proofs.Orders.{due_grants-distinct, due_grants-members, due_grants-only}
-use Rattle.ptu_history.proofs.Standing.{Contains-filter, standing-last}
 use Rattle.ptu_history.proofs.Unique.{Apart, Apart-from_pairs, Contains-cons_cases, Contains-first, Contains-from_filter, Contains-later, pairs_from_Apart}
 use Rattle.ptu_history.proofs.Members as grants
 use Rattle.ptu_history.proofs.Members.{same_test}

@@ -1,12 +1,10 @@
 use Rattle.std.proofs.Common.{◌≡◌, ◌∙◌, ◌+◌, ◌-◌, ◌*◌, ◌≤◌, ◌++◌, ◌∷◌, [], ℕ, max, min, ap, arith, refl, rules, subst, sym}
 use Rattle.ptu_units.specs.{Client.{table_of}, Log.{rate_of}}
-use Rattle.ptu_history.specs.History.{Granted, capacity_in_force}
+use Rattle.ptu_history.specs.{History.{Granted, capacity_in_force}, Step.{verdict_records}}
 use Rattle.ptu_history.specs.{Moments.{book_moment}, Verdict.{GrantedFor, others, verdict}}
-use Rattle.ptu_history.specs.Step.{verdict_records}
 use Rattle.ptu_history.proofs.Verdicts.{verdict-granted, verdict-outside}
 use Rattle.ptu_admit.specs.{Lent.{StandFor, table_for}, Rows.{kept_rate}, Verdict.{ask_of, cause_of, config_of}}
-use Rattle.ptu_admit.proofs.Alone.{alone_one, alone_same}
-use Rattle.ptu_admit.proofs.Lending.{are_at, of_granted, taken}
+use Rattle.ptu_admit.proofs.{Alone.{alone_one, alone_same}, Lending.{are_at, of_granted, taken}}
 use Rattle.ptu_admit.proofs.Verdicts.{others-le, outside_stands}
 use Rattle.ptu_admit.proofs.asking.decide_one.Goals as goal
 

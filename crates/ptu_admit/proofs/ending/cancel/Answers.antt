@@ -4,9 +4,8 @@ use Rattle.ptu_history.specs.{History.{Ended}, Moments.{book_moment}}
 use Rattle.ptu_shard.specs.Table.{StandsAt}
 use Rattle.ptu_shard.proofs.Turns.{live_kept}
 use Rattle.ptu_admit.specs.Lent.{table_for}
-use Rattle.ptu_admit.proofs.Alone.{alone_one}
+use Rattle.ptu_admit.proofs.{Alone.{alone_one}, Sums.{share_of-left, share_of-removed}}
 use Rattle.ptu_admit.proofs.{Lending.{are_at, of_ended, taken}, RowKeys.{has_live-swept}}
-use Rattle.ptu_admit.proofs.Sums.{share_of-left, share_of-removed}
 use Rattle.ptu_admit.proofs.ending.cancel.Goals as goal
 
 pub settle-requires-clause-fits : goal.settle-requires-clause-fits
