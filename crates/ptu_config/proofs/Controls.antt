@@ -1,7 +1,6 @@
 -- Whether a document names a control port.
 use Rattle.std.proofs.Common.{◌≡◌, ℕ, zero, suc, List, [], ◌∷◌, if◌then◌else◌, Bool, true, false, Option, Some, None, pos, negsuc, codes, refl}
-use Rattle.std.specs.Prelude.{is_some}
-use Rattle.std.specs.List.{list_all}
+use Rattle.std.specs.{Prelude.{is_some}, List.{list_all}}
 use Rattle.toml.specs.Data.{Data, string, integer, float, boolean, datetime, array, table, Members, get_member}
 use Rattle.ptu_config.specs.{declared.key.Key.{Key}, Entries.{number_or_nothing}}
 use Rattle.ptu_config.specs.declared.key.Key.TheVariants.{ControlPort, EventPort, GeneralPort}

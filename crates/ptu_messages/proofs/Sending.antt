@@ -1,9 +1,7 @@
 -- What is sent spells the message, whatever follows it.
 use Rattle.std.proofs.Common.{◌≡◌, ℕ, ◌+◌, ◌-◌, ◌≤◌, List, [], ◌∷◌, ◌++◌, length, refl, sym, ap, subst, ◌∙◌, arith, append_assoc, length-append}
-use Rattle.std.specs.Prelude.{◌*◌, All, slice_range}
-use Rattle.std.proofs.lemmas.List.Elements.{All-head, All-tail}
-use Rattle.std.specs.List.{flat_map}
-use Rattle.std.proofs.lemmas.List.{append-nil, take_at}
+use Rattle.std.specs.{Prelude.{◌*◌, All, slice_range}, List.{flat_map}}
+use Rattle.std.proofs.{lemmas.List.Elements.{All-head, All-tail}, lemmas.List.{append-nil, take_at}}
 use Rattle.ptu_units.specs.declared.stamp.Stamp.{Stamp}
 use Rattle.ptu_units.proofs.{BigEndian.{number_at-octets_of}, Signs.{signed_at-octets_16}}
 use Rattle.ptu_messages.specs.declared.header.{Header.{Header}, PortIdentity.{PortIdentity}}

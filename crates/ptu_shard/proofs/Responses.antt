@@ -1,8 +1,7 @@
 -- What a Delay_Req meets, by the rows.
 use Rattle.std.proofs.Common.{◌≡◌, ◌∙◌, inr, ℕ, ◌≤◌, ◌++◌, List, [], ◌∷◌, Bool, true, false, ◌&&◌, cond, ltb, leb, refl, sym, ap, ap₂, subst, arith, append_assoc, Option, Some, None}
 use Rattle.std.specs.{List.{Contains}, Option.{option_map_or}}
-use Rattle.std.proofs.lemmas.Bool.{leb-true, ltb-true}
-use Rattle.std.proofs.Math.Bool.{and-true, and-false}
+use Rattle.std.proofs.{lemmas.Bool.{leb-true, ltb-true}, Math.Bool.{and-true, and-false}}
 use Rattle.ptu_units.specs.declared.kind.Kind.TheVariants.{DelayResp}
 use Rattle.ptu_units.specs.{declared.client.Client.{Client}, Client.{table_of}}
 use Rattle.ptu_history.specs.{History.{Record, Looked, Sent}, Moments.{book_part, greatest_by}}
