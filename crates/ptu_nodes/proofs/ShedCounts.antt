@@ -22,9 +22,7 @@ use Rattle.ptu_shard.specs.{declared.lease.Row.{Row}, Table.{StandsAt}}
 use Rattle.ptu_admit.specs.{declared.shed_list.Shed.{Shed}, Newest.{grant_of}, Rows.{live_rows}}
 use Rattle.ptu_admit.specs.Shed.{shed_of}
 use Rattle.ptu_admit.proofs.Grants.{row_of_live}
-use Rattle.ptu_shard.proofs.SoFar.{length-filter-le}
-use Rattle.ptu_shard.proofs.Standing.{is_live_row}
-use Rattle.ptu_admit.proofs.Sums.{Contains-map, IsMapped}
+use Rattle.ptu_shard.proofs.{SoFar.{length-filter-le}, Spending.{Contains-image, IsImage}, Standing.{is_live_row}}
 use Rattle.ptu_grandmaster.specs.{Changed.{AreShedAt, leases_shed}, Gm.{KeptGm, StandsFor}}
 use Rattle.ptu_nodes.specs.GrandmasterPorts.{rows_kept}
 
@@ -59,8 +57,8 @@ grants_in x rows = map grant_of (live_rows x rows)
 grants_few : (x : ℕ) (rows : List Row) → length (grants_in x rows) ≤ length rows
 grants_few x rows = omega (arith, length-map (live_rows x rows) grant_of, length-filter-le (is_live_row x) rows)
 
-there : (x : ℕ) (rows : List Row) (g : Grant) → IsMapped grant_of (live_rows x rows) g → Contains (grants_in x rows) g
-there x rows g m = subst (λ z. Contains (grants_in x rows) z) m.is (Contains-map grant_of (live_rows x rows) m.from m.contained)
+there : (x : ℕ) (rows : List Row) (g : Grant) → IsImage grant_of (live_rows x rows) g → Contains (grants_in x rows) g
+there x rows g m = subst (λ z. Contains (grants_in x rows) z) m.is (Contains-image grant_of (live_rows x rows) m.from m.contained)
 
 -- after a history that the grandmaster stands for each grant that is live has its row
 module _ (opening : ℕ) (gm : KeptGm MemoryPort) (history : List Record) (stood : StandsFor opening gm history) (x : ℕ) (reached : book_moment history ≤ x) where
