@@ -8,10 +8,9 @@ use Rattle.ptu_history.specs.{Shedding.{shed_record}, Step.{verdict_records}}
 use Rattle.ptu_history.proofs.Moments.{book_moment-one, book_moment-resized}
 use Rattle.ptu_shard.specs.Table.{Kept, StandsAt}
 use Rattle.ptu_shard.proofs.Standing.{stands_elsewhere}
-use Rattle.ptu_admit.specs.declared.verdict.Verdict.{Verdict}
+use Rattle.ptu_admit.specs.{declared.verdict.Verdict.{Verdict}, Newest.{AreOfTable, IsThinned}}
 use Rattle.ptu_admit.specs.declared.verdict.Verdict.TheVariants as verdicts
 use Rattle.ptu_admit.specs.Alone.{AreDecisionsFrom, GoesOnAlone, IsDecidedIn, IsDecisionFrom, StandsAlone}
-use Rattle.ptu_admit.specs.Newest.{AreOfTable, IsThinned}
 use Rattle.ptu_admit.specs.{Tables.{IsSwept}, Verdict.{OnOutside, verdict_of}}
 use Rattle.ptu_admit.proofs.Lending.{stands_later, swept_stands}
 

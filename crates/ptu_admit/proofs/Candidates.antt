@@ -10,9 +10,8 @@ use Rattle.std.proofs.lemmas.List.Elements.{All-contains, All-from_recursion}
 use Rattle.std.proofs.lemmas.List.Sorted.{Contains-permutation}
 use Rattle.ptu_units.specs.Client.{client_cmp, kind_cmp}
 use Rattle.ptu_history.specs.Shedding.{shed_cmp}
-use Rattle.ptu_history.proofs.Unique.{Contains-cons_cases}
+use Rattle.ptu_history.proofs.{Unique.{Contains-cons_cases}, Order.{kind_cmp_is}}
 use Rattle.ptu_shard.specs.{declared.lease.Row.{Row}, Table.{Kept}}
-use Rattle.ptu_history.proofs.Order.{kind_cmp_is}
 use Rattle.ptu_admit.specs.contracts.newest.CandidateOrd.TheImpl as candidates
 use Rattle.ptu_admit.specs.declared.newest.{Candidate.{Candidate}, Found.{Found}}
 use Rattle.ptu_admit.specs.Lent.{Lent, four, rows_of_lent}

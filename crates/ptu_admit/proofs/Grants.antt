@@ -5,23 +5,22 @@ use Rattle.std.proofs.lemmas.Bool.{eq-eqb, eqb-true, lt-ltb, ltb-true, not-true}
 use Rattle.std.proofs.lemmas.List.{Filters.{sum_by-filter_both}, Kept.{AllPairs-filter}}
 use Rattle.ptu_units.specs.{declared.kind.Kind.{Kind}, Log.{rate_of}}
 use Rattle.ptu_units.specs.{declared.client.Client.{Client}, Client.{table_of}}
-use Rattle.ptu_history.specs.History.{Record, Granted}
+use Rattle.ptu_history.specs.{History.{Record, Granted}, Verdict.{own_rate, rate_sum, table_rates}}
 use Rattle.ptu_history.specs.Live.{Grant, IsLastDecision, last_decision, live_grants}
-use Rattle.ptu_history.specs.Verdict.{own_rate, rate_sum, table_rates}
 use Rattle.ptu_units.proofs.Keys.{same_lease-true}
 use Rattle.ptu_history.proofs.Lists.{filter-all, filter-comm}
 use Rattle.ptu_history.proofs.{Members.{Differ}, Orders.{live_distinct, live_members}}
 use Rattle.ptu_history.proofs.{Rates.{own_rate-live, own_rate-none}, Standing.{Contains-filter}}
 use Rattle.ptu_history.proofs.Unique.{Apart, Apart-from_pairs, Contains-from_filter}
-use Rattle.ptu_shard.specs.declared.lease.{Lease.{Lease}, Row.{Row}}
+use Rattle.ptu_shard.specs.{declared.lease.{Lease.{Lease}, Row.{Row}}, Table.{Kept, StandsAt}}
 use Rattle.ptu_shard.specs.Row.{IsDistinctByLease, is_row_of, lease_of, share_of, without_row}
-use Rattle.ptu_shard.specs.Table.{Kept, StandsAt}
 use Rattle.ptu_shard.proofs.RowLists as rows
+use Rattle.ptu_shard.proofs.Spending.{Contains-image, IsImage, image}
 use Rattle.ptu_shard.proofs.RowLists.{IsPresent, lease_cases, present_some, share_of-filter-le}
 use Rattle.ptu_shard.proofs.{Standing.{granted_row, is_live_row, stands_swept}, Turns.{live_kept}}
 use Rattle.ptu_admit.specs.{Lent.{Lent, is_elsewhere, rates_elsewhere}, Newest.{grant_of}}
 use Rattle.ptu_admit.specs.{Rows.{kept_rate, live_rows}, Tables.{IsSwept}}
-use Rattle.ptu_admit.proofs.Sums.{Contains-from_map, Contains-map, IsMapped, distinct_grants, rate, rate_sum-within, share_of-grants, share_of-permuted, share_of-without}
+use Rattle.ptu_admit.proofs.Sums.{distinct_grants, rate, rate_sum-within, share_of-grants, share_of-permuted, share_of-without}
 
 pub apart_filter : (p : Grant → Bool) (history : List Record) (x : ℕ) → Apart Differ (filter p (live_grants history x))
 apart_filter p history x = Apart-from_pairs Differ (filter p (live_grants history x)) (AllPairs-filter Differ p (live_grants history x) (live_distinct history x))
@@ -46,14 +45,14 @@ same_grant a b s c k l u =
 
 module _ (book j : ℕ) (xs : List Row) (moment : ℕ) (history : List Record) (x : ℕ) (s : StandsAt book j xs moment history) (reached : (book ≤ x) ⊎ (moment ≤ x)) where
   -- the row of a grant of the table that is live
-  pub row_of_live : (g : Grant) → IsLastDecision history g → x < g.until → table_of g.client ≡ j → IsMapped grant_of (live_rows x xs) g
+  pub row_of_live : (g : Grant) → IsLastDecision history g → x < g.until → table_of g.client ≡ j → IsImage grant_of (live_rows x xs) g
   row_of_live g last before own = at (lease_cases (lease_of g.client g.kind xs))
     where
       missed : (book ≤ x) ⊎ (moment ≤ x) → (g.until ≤ book) × (g.until ≤ moment) → ⊥
       missed (inl le) h = let under : g.until ≤ book = h.0 in omega arith
       missed (inr le) h = let under : g.until ≤ moment = h.1 in omega arith
 
-      at : (lease_of g.client g.kind xs ≡ None) ⊎ ((lease : Lease) × (lease_of g.client g.kind xs ≡ Some lease)) → IsMapped grant_of (live_rows x xs) g
+      at : (lease_of g.client g.kind xs ≡ None) ⊎ ((lease : Lease) × (lease_of g.client g.kind xs ≡ Some lease)) → IsImage grant_of (live_rows x xs) g
       at (inl e) = absurd (missed reached (s.over g.client g.kind g.start g.log g.until own last e))
       at (inr (lease, e)) =
           let p : IsPresent g.client g.kind xs lease = present_some g.client g.kind xs lease e in
@@ -72,13 +71,13 @@ module _ (book j : ℕ) (xs : List Row) (moment : ℕ) (history : List Record) (
   live_there g h =
       let both : Contains (live_grants history x) g × (in_table j g ≡ true) = Contains-from_filter (in_table j) (live_grants history x) g h in
       let is : IsLastDecision history g × (x < g.until) = (live_members history x g).0 both.0 in
-      let m : IsMapped grant_of (live_rows x xs) g = row_of_live g is.0 is.1 (eqb-true (table_of g.client) j both.1) in
-      subst (λ z. Contains (map grant_of (live_rows x xs)) z) m.is (Contains-map grant_of (live_rows x xs) m.from m.contained)
+      let m : IsImage grant_of (live_rows x xs) g = row_of_live g is.0 is.1 (eqb-true (table_of g.client) j both.1) in
+      subst (λ z. Contains (map grant_of (live_rows x xs)) z) m.is (Contains-image grant_of (live_rows x xs) m.from m.contained)
 
   -- and the other way round
   pub rows_there : (g : Grant) → Contains (map grant_of (live_rows x xs)) g → Contains (filter (in_table j) (live_grants history x)) g
   rows_there g h =
-      let m : IsMapped grant_of (live_rows x xs) g = Contains-from_map grant_of (live_rows x xs) g h in
+      let m : IsImage grant_of (live_rows x xs) g = image grant_of (live_rows x xs) g h in
       let both : Contains xs m.from × (is_live_row x m.from ≡ true) = Contains-from_filter (is_live_row x) xs m.from m.contained in
       let kept = s.kept m.from both.0 in
       subst (λ z. Contains (filter (in_table j) (live_grants history x)) z) m.is

@@ -8,9 +8,8 @@ use Rattle.ptu_units.specs.{declared.client.Client.{Client}, Client.{table_of}}
 use Rattle.ptu_history.specs.{History.{Record, Granted}, Live.{last_decision, live}}
 use Rattle.ptu_history.specs.{Runs.{sequence_number}, Lawful.{earliest}}
 use Rattle.ptu_units.proofs.Keys.{same_lease-refl, same_lease-true}
-use Rattle.ptu_history.proofs.AfterSteps.{live-last}
+use Rattle.ptu_history.proofs.{AfterSteps.{live-last}, Standing.{last_pushed}}
 use Rattle.ptu_history.proofs.Renewals.{earliest_new, earliest_same, first_continues, other_continues, sequence_is}
-use Rattle.ptu_history.proofs.Standing.{last_pushed}
 use Rattle.ptu_shard.specs.{declared.lease.Lease.{Lease}, declared.lease.Row.{Row}, Row.{lease_of}}
 use Rattle.ptu_shard.specs.Table.{IsLeaseOf, StandsAt}
 use Rattle.ptu_shard.proofs.{RowLists.{IsPresent, lease_cases, present_some}, Turns.{live_kept}}

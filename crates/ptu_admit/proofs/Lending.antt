@@ -1,22 +1,19 @@
 -- What lent tables and a book stand for, from one step to the next.
 use Rattle.std.proofs.Common.{◌≡◌, ◌∙◌, inl, ℕ, ◌+◌, ◌<◌, ◌≤◌, max, ◌++◌, List, [], ◌∷◌, Bool, true, false, not, ◌||◌, cond, eqb, ltb, refl, sym, ap, subst, arith, ℤ, Some}
-use Rattle.std.proofs.lemmas.Bool.{eq-eqb, eqb-true, false_from_ne_true, false≢true, not-true, true≢false}
+use Rattle.std.proofs.lemmas.Bool.{eq-eqb, eqb-true, false_from_ne_true, false≢true, not-true, or_parts, true≢false}
 use Rattle.ptu_units.specs.declared.kind.Kind.{Kind}
 use Rattle.ptu_units.specs.{declared.client.Client.{Client}, Client.{table_of}}
 use Rattle.ptu_history.specs.History.{Record, Granted, Short, Ended, Shed, capacity_in_force, concerns, is_change, is_decision, moment_of}
-use Rattle.ptu_history.specs.Moments.{book_moment, book_part, table_part}
+use Rattle.ptu_history.specs.{Moments.{book_moment, book_part, table_part}, Verdict.{table_rates}}
 use Rattle.ptu_history.specs.Live.{Grant, IsLastDecision, last_decision, live_grants, standing}
-use Rattle.ptu_history.specs.Verdict.{table_rates}
 use Rattle.ptu_units.proofs.Keys.{same_lease-true}
-use Rattle.ptu_history.proofs.Capacities.{capacity_in_force-unchanged}
+use Rattle.ptu_history.proofs.{Capacities.{capacity_in_force-unchanged}, Standing.{last_pushed}}
 use Rattle.ptu_history.proofs.{Moments.{book_moment-one}, Rates.{table_below}}
-use Rattle.ptu_history.proofs.Standing.{last_pushed}
 use Rattle.ptu_shard.specs.{declared.lease.Row.{Row}, Row.{share_of}, Table.{Kept, StandsAt}}
 use Rattle.ptu_shard.proofs.RowLists.{same_permuted, share_of-filter-le}
 use Rattle.ptu_shard.proofs.Standing.{stands_elsewhere, stands_same, stands_swept}
-use Rattle.ptu_admit.specs.Book.{KeptBook}
+use Rattle.ptu_admit.specs.{Book.{KeptBook}, Rows.{live_rows}, Tables.{IsSwept}}
 use Rattle.ptu_admit.specs.Lent.{EachStandsAt, Lent, StandFor, four, is_elsewhere, is_lent, rates_elsewhere, shares}
-use Rattle.ptu_admit.specs.{Rows.{live_rows}, Tables.{IsSwept}}
 use Rattle.ptu_admit.proofs.Grants.{elsewhere-fewer, elsewhere-within, table_rates-le}
 
 -- the lent tables, a capacity and a total beside a book that has reached the moment
@@ -71,15 +68,11 @@ not_only j r of d i other = false_from_ne_true (concerns d i r) (λ yes. true≢
 pub same_false : (j i : ℕ) → eqb i j ≡ false → eqb j i ≡ false
 same_false j i e = false_from_ne_true (eqb j i) (λ yes. true≢false (sym (eq-eqb i j (sym (eqb-true j i yes))) ∙ e))
 
-or_first : (a b : Bool) → (a || b) ≡ false → (a ≡ false) × (b ≡ false)
-or_first true b e = absurd (true≢false e)
-or_first false b e = (refl, e)
-
 -- other tables pass it
 pub each_passes : (n j : ℕ) (r : Record) (lent : List Lent) (history : List Record) → IsOfTable j r → is_lent j lent ≡ false → EachStandsAt n lent history → EachStandsAt n lent (history ++ r ∷ [])
 each_passes n j r [] history of none s = tt
 each_passes n j r (t ∷ lent) history of none s =
-    let apart : (eqb t.index j ≡ false) × (is_lent j lent ≡ false) = or_first (eqb t.index j) (is_lent j lent) none in
+    let apart : (eqb t.index j ≡ false) × (is_lent j lent ≡ false) = or_parts (eqb t.index j) (is_lent j lent) none in
     let other : eqb j t.index ≡ false = same_false j t.index apart.0 in
     let part : table_part t.index r ≡ 0 = of.part t.index other in (
       stands_elsewhere n t.index t.moment history t.rows s.0 r
@@ -93,7 +86,7 @@ module _ (b n j : ℕ) (history more : List Record)
   others_pass : (lent : List Lent) → is_lent j lent ≡ false → EachStandsAt b lent history → EachStandsAt n lent more
   others_pass [] none s = tt
   others_pass (t ∷ lent) none s =
-      let apart : (eqb t.index j ≡ false) × (is_lent j lent ≡ false) = or_first (eqb t.index j) (is_lent j lent) none in
+      let apart : (eqb t.index j ≡ false) × (is_lent j lent ≡ false) = or_parts (eqb t.index j) (is_lent j lent) none in
       (passes t (same_false j t.index apart.0) s.0, others_pass lent apart.1 s.1)
 
   -- where one of the lent tables goes on, and the others pass what it goes on with, each goes on
@@ -102,7 +95,7 @@ module _ (b n j : ℕ) (history more : List Record)
       EachStandsAt b (before ++ old ∷ after) history → EachStandsAt n (before ++ new ∷ after) more
   each_goes_on [] old new after none goes_on s = (goes_on s.0, others_pass after none s.1)
   each_goes_on (t ∷ before) old new after none goes_on s =
-      let apart : (eqb t.index j ≡ false) × (is_lent j (before ++ after) ≡ false) = or_first (eqb t.index j) (is_lent j (before ++ after)) none in
+      let apart : (eqb t.index j ≡ false) × (is_lent j (before ++ after) ≡ false) = or_parts (eqb t.index j) (is_lent j (before ++ after)) none in
       (passes t (same_false j t.index apart.0) s.0, each_goes_on before old new after apart.1 goes_on s.1)
 
 -- each of the lent tables stands for the history
@@ -120,7 +113,7 @@ last_passes j r history g of other last =
     undecided false = refl
 
 pub elsewhere_apart : (t : Lent) (rest : List Lent) (g : Grant) → is_elsewhere (t ∷ rest) g ≡ true → eqb t.index (table_of g.client) ≡ false
-elsewhere_apart t rest g e = (or_first (eqb t.index (table_of g.client)) (is_lent (table_of g.client) rest) (not-true (is_lent (table_of g.client) (t ∷ rest)) e)).0
+elsewhere_apart t rest g e = (or_parts (eqb t.index (table_of g.client)) (is_lent (table_of g.client) rest) (not-true (is_lent (table_of g.client) (t ∷ rest)) e)).0
 
 -- one more record, of one of the lent tables
 module _ (opening b n : ℕ) (t t' : Lent) (rest : List Lent) (capacity total total' : ℕ) (history : List Record) (r : Record)

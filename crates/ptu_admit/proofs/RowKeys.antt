@@ -14,8 +14,7 @@ use Rattle.ptu_shard.specs.Row.{IsDistinctByLease, is_row_of, lease_of, share_of
 use Rattle.ptu_shard.proofs.RowLists.{Differ, HasSameMembers, IsPresent, lease_cases, missing_none, present_some, same_permuted}
 use Rattle.ptu_admit.specs.{Lent.{Lent, shares}, Newest.{rows_in}}
 use Rattle.ptu_admit.specs.Rows.{has_live_row, kept_rate, live_rows}
-use Rattle.ptu_shard.proofs.SoFar.{length-filter-le}
-use Rattle.ptu_shard.proofs.Standing.{is_live_row}
+use Rattle.ptu_shard.proofs.{SoFar.{length-filter-le}, Standing.{is_live_row}}
 
 -- of distinct rows one is of the client and kind
 pub same_row : (c : Client) (k : Kind) (xs : List Row) → Apart Differ xs → (a b : Row) → Contains xs a → Contains xs b → is_row_of c k a ≡ true → is_row_of c k b ≡ true → a ≡ b

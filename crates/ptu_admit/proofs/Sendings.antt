@@ -18,9 +18,8 @@ use Rattle.ptu_shard.specs.{declared.lease.Row.{Row}, Row.{share_of}, Table.{Sta
 use Rattle.ptu_shard.specs.Turn.{spent_row, spent_where}
 use Rattle.ptu_admit.specs.Book.{KeptBook}
 use Rattle.ptu_admit.specs.Lent.{EachStandsAt, Lent, StandFor, is_lent, rates_elsewhere, shares}
-use Rattle.ptu_admit.proofs.Grants.{elsewhere-within}
+use Rattle.ptu_admit.proofs.{Grants.{elsewhere-within}, Sums.{row_rate, share_of-permuted}}
 use Rattle.ptu_admit.proofs.Lending.{IsOfTable, each_passes, elsewhere_apart, last_passes}
-use Rattle.ptu_admit.proofs.Sums.{row_rate, share_of-permuted}
 
 -- each of the records is of the table
 abbrev AreOfTable : ℕ → List Record → Type 0

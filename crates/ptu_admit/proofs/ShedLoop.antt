@@ -7,10 +7,9 @@ use Rattle.ptu_units.specs.Client.{same_lease}
 use Rattle.ptu_history.specs.Live.{Grant, live_grants}
 use Rattle.ptu_history.specs.{History.{Record, Capacity, Shed, capacity_in_force}}
 use Rattle.ptu_history.specs.Shedding.{shed_grants, shed_order, shed_prefix, shed_record}
-use Rattle.ptu_history.proofs.AfterSteps.{capacity_in_force-sheds}
+use Rattle.ptu_history.proofs.{AfterSteps.{capacity_in_force-sheds}, Unique.{Contains-from_filter}}
 use Rattle.ptu_history.proofs.{Capacities.{capacity_in_force-append}}
 use Rattle.ptu_units.proofs.Keys.{same_lease-refl}
-use Rattle.ptu_history.proofs.Unique.{Contains-from_filter}
 use Rattle.ptu_shard.specs.{declared.lease.Row.{Row}, Row.{share_of}, Table.{Kept, StandsAt}}
 use Rattle.ptu_shard.proofs.{RowLists.{same_permuted}, Standing.{stands_elsewhere}}
 use Rattle.ptu_admit.specs.{Book.{KeptBook}, declared.newest.Found.{Found}}

@@ -5,9 +5,8 @@ use Rattle.std.proofs.lemmas.Bool.{le-leb, lt-leb, lt-ltb}
 use Rattle.std.proofs.lemmas.List.Elements.{Contains-append_cases, Contains-append_left, Contains-append_right}
 use Rattle.std.proofs.lemmas.List.Sorted.{sum_by-IsPermutation}
 use Rattle.ptu_units.specs.Client.{same_lease, table_of}
-use Rattle.ptu_history.specs.History.{Granted, Record, Shed}
+use Rattle.ptu_history.specs.{History.{Granted, Record, Shed}, Order.{in_order}, Verdict.{rate_sum}}
 use Rattle.ptu_history.specs.Live.{Grant, IsLastDecision, last_decision, live_grants}
-use Rattle.ptu_history.specs.{Order.{in_order}, Verdict.{rate_sum}}
 use Rattle.ptu_history.specs.Shedding.{shed_cmp, shed_order, shed_prefix}
 use Rattle.ptu_units.proofs.Keys.{same_lease-sym, same_lease-true}
 use Rattle.ptu_history.proofs.Members.{Differ}
@@ -16,15 +15,13 @@ use Rattle.ptu_history.proofs.Orders.{shed_order-distinct, shed_order-members, s
 use Rattle.ptu_history.proofs.{Rates.{rates-tables, table_below}, Standing.{last_pushed}}
 use Rattle.ptu_history.proofs.Unique.{Apart-from_pairs, Contains-cons_cases, Contains-first, Contains-from_filter, Contains-later, pairs_from_Apart}
 use Rattle.ptu_shard.specs.{declared.lease.Row.{Row}, Row.{share_of}, Table.{Kept, StandsAt}}
-use Rattle.ptu_shard.proofs.RowLists.{share_of-filter-le}
-use Rattle.ptu_admit.specs.declared.newest.Found.{Found}
+use Rattle.ptu_shard.proofs.{RowLists.{share_of-filter-le}, Spending.{Contains-image, IsImage, image}}
+use Rattle.ptu_admit.specs.{declared.newest.Found.{Found}, Rows.{live_rows}}
 use Rattle.ptu_admit.specs.Lent.{EachStandsAt, Lent, four, lent_as, rows_of_lent, shares}
 use Rattle.ptu_admit.specs.Newest.{AreListed, all_found, candidate_of, found_in, grant_of}
-use Rattle.ptu_admit.specs.Rows.{live_rows}
 use Rattle.ptu_admit.proofs.Grants.{live_share, row_of_live, table_rates-le}
-use Rattle.ptu_admit.proofs.Candidates.{NotAfter}
-use Rattle.ptu_admit.proofs.Sums.{Contains-from_map, Contains-map, IsMapped, rate}
-use Rattle.ptu_admit.proofs.Verdicts.{FourDistinct}
+use Rattle.ptu_admit.proofs.{Candidates.{NotAfter}, Verdicts.{FourDistinct}}
+use Rattle.ptu_admit.proofs.Sums.{rate}
 
 -- one more in front of a sorted list
 sorted_front : (g : Grant) (gs : List Grant) → ((m : Grant) → Contains gs m → is_lt (shed_cmp m g) ≡ false) → IsSorted shed_cmp gs → IsSorted shed_cmp (g ∷ gs)
@@ -140,37 +137,37 @@ module _ {P : Type 0} (n : ℕ) (a b c d : Kept P) (h : List Record) (s : EachSt
   found_of : (m : Grant) → IsLastDecision h m → n < m.until → (f : Found) × Contains (all_found (four a b c d)) f × (grant_of f.row ≡ m)
   found_of m last before = at (table_of m.client) refl (table_below m.client)
     where
-      in_rows : (j : ℕ) (xs : List Row) (moment : ℕ) → StandsAt n j xs moment h → table_of m.client ≡ j → IsMapped grant_of xs m
+      in_rows : (j : ℕ) (xs : List Row) (moment : ℕ) → StandsAt n j xs moment h → table_of m.client ≡ j → IsImage grant_of xs m
       in_rows j xs moment st own =
-          let r : IsMapped grant_of (live_rows n xs) m = row_of_live n j xs moment h n st (inl (omega arith)) m last before own in
+          let r : IsImage grant_of (live_rows n xs) m = row_of_live n j xs moment h n st (inl (omega arith)) m last before own in
           record { from = r.from; contained = (Contains-from_filter (λ (row : Row). ltb n row.lease.until) xs r.from r.contained).0; is = r.is }
 
       at : (j : ℕ) → table_of m.client ≡ j → j < 4 → (f : Found) × Contains (all_found (four a b c d)) f × (grant_of f.row ≡ m)
       at zero own lt =
-          let r : IsMapped grant_of a.rows m = in_rows 0 a.rows a.moment s.0 own in
-          (found_in 0 r.from, Contains-append_left (map (found_in 0) a.rows) (all_found (lent_as 1 b ∷ lent_as 2 c ∷ lent_as 3 d ∷ [])) (found_in 0 r.from) (Contains-map (found_in 0) a.rows r.from r.contained), r.is)
+          let r : IsImage grant_of a.rows m = in_rows 0 a.rows a.moment s.0 own in
+          (found_in 0 r.from, Contains-append_left (map (found_in 0) a.rows) (all_found (lent_as 1 b ∷ lent_as 2 c ∷ lent_as 3 d ∷ [])) (found_in 0 r.from) (Contains-image (found_in 0) a.rows r.from r.contained), r.is)
       at (suc zero) own lt =
-          let r : IsMapped grant_of b.rows m = in_rows 1 b.rows b.moment s.1.0 own in (
+          let r : IsImage grant_of b.rows m = in_rows 1 b.rows b.moment s.1.0 own in (
             found_in 1 r.from,
             Contains-append_right (map (found_in 0) a.rows) (all_found (lent_as 1 b ∷ lent_as 2 c ∷ lent_as 3 d ∷ [])) (found_in 1 r.from)
-                (Contains-append_left (map (found_in 1) b.rows) (all_found (lent_as 2 c ∷ lent_as 3 d ∷ [])) (found_in 1 r.from) (Contains-map (found_in 1) b.rows r.from r.contained)),
+                (Contains-append_left (map (found_in 1) b.rows) (all_found (lent_as 2 c ∷ lent_as 3 d ∷ [])) (found_in 1 r.from) (Contains-image (found_in 1) b.rows r.from r.contained)),
             r.is,
           )
       at (suc (suc zero)) own lt =
-          let r : IsMapped grant_of c.rows m = in_rows 2 c.rows c.moment s.1.1.0 own in (
+          let r : IsImage grant_of c.rows m = in_rows 2 c.rows c.moment s.1.1.0 own in (
             found_in 2 r.from,
             Contains-append_right (map (found_in 0) a.rows) (all_found (lent_as 1 b ∷ lent_as 2 c ∷ lent_as 3 d ∷ [])) (found_in 2 r.from)
                 (Contains-append_right (map (found_in 1) b.rows) (all_found (lent_as 2 c ∷ lent_as 3 d ∷ [])) (found_in 2 r.from)
-                (Contains-append_left (map (found_in 2) c.rows) (all_found (lent_as 3 d ∷ [])) (found_in 2 r.from) (Contains-map (found_in 2) c.rows r.from r.contained))),
+                (Contains-append_left (map (found_in 2) c.rows) (all_found (lent_as 3 d ∷ [])) (found_in 2 r.from) (Contains-image (found_in 2) c.rows r.from r.contained))),
             r.is,
           )
       at (suc (suc (suc zero))) own lt =
-          let r : IsMapped grant_of d.rows m = in_rows 3 d.rows d.moment s.1.1.1.0 own in (
+          let r : IsImage grant_of d.rows m = in_rows 3 d.rows d.moment s.1.1.1.0 own in (
             found_in 3 r.from,
             Contains-append_right (map (found_in 0) a.rows) (all_found (lent_as 1 b ∷ lent_as 2 c ∷ lent_as 3 d ∷ [])) (found_in 3 r.from)
                 (Contains-append_right (map (found_in 1) b.rows) (all_found (lent_as 2 c ∷ lent_as 3 d ∷ [])) (found_in 3 r.from)
                 (Contains-append_right (map (found_in 2) c.rows) (all_found (lent_as 3 d ∷ [])) (found_in 3 r.from)
-                (Contains-append_left (map (found_in 3) d.rows) [] (found_in 3 r.from) (Contains-map (found_in 3) d.rows r.from r.contained)))),
+                (Contains-append_left (map (found_in 3) d.rows) [] (found_in 3 r.from) (Contains-image (found_in 3) d.rows r.from r.contained)))),
             r.is,
           )
       at (suc (suc (suc (suc j)))) own lt = absurd (omega arith)
@@ -185,7 +182,7 @@ is_placed a b c d f h = at0 (Contains-append_cases (map (found_in 0) a.rows) (al
   where
     put : (j : ℕ) (xs : List Row) → j < 4 → rows_of_lent j (four a b c d) ≡ xs → Contains (map (found_in j) xs) f → IsPlaced a b c d f
     put j xs lt is i =
-        let m : IsMapped (found_in j) xs f = Contains-from_map (found_in j) xs f i in
+        let m : IsImage (found_in j) xs f = image (found_in j) xs f i in
         subst (λ z. IsPlaced a b c d z) m.is (record { place = lt; contained = subst (λ ys. Contains ys m.from) (sym is) m.contained })
 
     at3 : Contains (map (found_in 3) d.rows) f ⊎ Contains [] f → IsPlaced a b c d f
@@ -221,7 +218,7 @@ placed_found a b c d f place contained = at f.table refl place contained
     fourth = map (found_in 3) d.rows
 
     own : (j : ℕ) (xs : List Row) → f.table ≡ j → Contains xs f.row → Contains (map (found_in j) xs) f
-    own j xs is i = subst (λ z. Contains (map (found_in j) xs) z) (ap (λ (k : ℕ). record f { table = k }) (sym is)) (Contains-map (found_in j) xs f.row i)
+    own j xs is i = subst (λ z. Contains (map (found_in j) xs) z) (ap (λ (k : ℕ). record f { table = k }) (sym is)) (Contains-image (found_in j) xs f.row i)
 
     at : (j : ℕ) → f.table ≡ j → j < 4 → Contains (rows_of_lent j (four a b c d)) f.row → Contains (all_found (four a b c d)) f
     at zero is lt i = Contains-append_left front (second ++ (third ++ (fourth ++ []))) f (own 0 a.rows is i)

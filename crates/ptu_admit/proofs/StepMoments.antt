@@ -2,8 +2,7 @@
 use Rattle.std.proofs.Common.{◌≡◌, ◌∙◌, ℕ, ◌≤◌, max, List, [], ◌∷◌, Bool, true, false, ◌||◌, cond, eqb, refl, ap, subst, arith}
 use Rattle.std.proofs.lemmas.Bool.{eqb-true, false≢true}
 use Rattle.ptu_units.specs.{declared.client.Client.{Client}, Client.{table_of}}
-use Rattle.ptu_history.specs.History.{Record}
-use Rattle.ptu_history.specs.Moments.{book_moment, table_moment}
+use Rattle.ptu_history.specs.{History.{Record}, Moments.{book_moment, table_moment}}
 use Rattle.ptu_history.specs.Core.{book_step_moment, table_step_moment}
 use Rattle.ptu_admit.specs.Book.{KeptBook}
 use Rattle.ptu_admit.specs.Lent.{EachStandsAt, Lent, StandFor, is_lent, moment_for, moment_for_all, moment_of_lent}

@@ -8,13 +8,13 @@ use Rattle.ptu_units.specs.{declared.kind.Kind.{Kind}, Log.{rate_of}}
 use Rattle.ptu_units.specs.{declared.client.Client.{Client}, Client.{same_lease}}
 use Rattle.ptu_history.specs.{Live.{Grant, is_of, without}, Verdict.{rate_sum}}
 use Rattle.ptu_units.proofs.Keys.{same_lease-refl, same_lease-true}
-use Rattle.ptu_history.proofs.Members.{Differ}
-use Rattle.ptu_history.proofs.Standing.{Contains-filter}
+use Rattle.ptu_history.proofs.{Members.{Differ}, Standing.{Contains-filter}}
 use Rattle.ptu_history.proofs.Unique.{Apart, Apart-from_pairs, Contains-cons_cases, Contains-first, Contains-later}
 use Rattle.ptu_laws.proofs.Sums.{sum-filter}
 use Rattle.ptu_shard.specs.declared.lease.{Row.{Row}, Lease.{Lease}}
 use Rattle.ptu_shard.specs.Row.{IsDistinctByLease, is_row_of, share_of, without_row}
 use Rattle.ptu_shard.proofs.RowLists as rows
+use Rattle.ptu_shard.proofs.Spending.{IsImage, image}
 use Rattle.ptu_admit.specs.{Newest.{grant_of}, Rows.{kept_rate}}
 
 abbrev pub rate : Grant → ℕ
@@ -41,28 +41,6 @@ rate_sum-within (x ∷ xs) ys apart inside =
     Contains-filter (λ g. not (is_of x.client x.kind g)) ys g (inside g (Contains-later x xs g h)) (ap not (apart.0 g h))) in
     omega (arith, own, ih, sum_by-cons rate x xs, sum_by-filter_both (is_of x.client x.kind) (λ g. not (is_of x.client x.kind g)) (λ _. refl) rate ys)
 
-pub Contains-map : {A B : Type 0} (f : A → B) (xs : List A) (x : A) → Contains xs x → Contains (map f xs) (f x)
-Contains-map f [] x (i, lt, h) = absurd (omega arith)
-Contains-map f (y ∷ xs) x h = at (Contains-cons_cases y xs x h) (Contains-map f xs x)
-  where
-    at : (y ≡ x) ⊎ Contains xs x → (Contains xs x → Contains (map f xs) (f x)) → Contains (f y ∷ map f xs) (f x)
-    at (inl e) later = subst (λ z. Contains (f y ∷ map f xs) (f z)) e (Contains-first (f y) (map f xs))
-    at (inr h) later = Contains-later (f y) (map f xs) (f x) (later h)
-
--- what a member of a mapped list comes from
-pub record IsMapped {A B : Type 0} (f : A → B) (xs : List A) (z : B) : Type 0 where
-  pub from : A
-  pub contained : Contains xs from
-  pub is : f from ≡ z
-
-pub Contains-from_map : {A B : Type 0} (f : A → B) (xs : List A) (z : B) → Contains (map f xs) z → IsMapped f xs z
-Contains-from_map f [] z (i, lt, h) = absurd (omega arith)
-Contains-from_map f (y ∷ xs) z h = at (Contains-cons_cases (f y) (map f xs) z h) (Contains-from_map f xs z)
-  where
-    at : (f y ≡ z) ⊎ Contains (map f xs) z → (Contains (map f xs) z → IsMapped f xs z) → IsMapped f (y ∷ xs) z
-    at (inl e) later = record { from = y; contained = Contains-first y xs; is = e }
-    at (inr h) later = let m : IsMapped f xs z = later h in record { from = m.from; contained = Contains-later y xs m.from m.contained; is = m.is }
-
 pub share_of-grants : (xs : List Row) → share_of xs ≡ rate_sum (map grant_of xs)
 share_of-grants [] = refl
 share_of-grants (x ∷ xs) = sum_by-cons row_rate x xs ∙ ap (λ n. row_rate x + n) (share_of-grants xs) ∙ sym (sum_by-cons rate (grant_of x) (map grant_of xs))
@@ -70,7 +48,7 @@ share_of-grants (x ∷ xs) = sum_by-cons row_rate x xs ∙ ap (λ n. row_rate x 
 apart_grants : (xs : List Row) → Apart rows.Differ xs → Apart Differ (map grant_of xs)
 apart_grants [] apart = tt
 apart_grants (x ∷ xs) apart = (
-  λ g h. let m : IsMapped grant_of xs g = Contains-from_map grant_of xs g h in subst (λ z. Differ (grant_of x) z) m.is (apart.0 m.from m.contained),
+  λ g h. let m : IsImage grant_of xs g = image grant_of xs g h in subst (λ z. Differ (grant_of x) z) m.is (apart.0 m.from m.contained),
   apart_grants xs apart.1,
 )
 

@@ -5,19 +5,17 @@ use Rattle.std.proofs.lemmas.{Bool.{eq-eqb, eqb-true}, List.Kept.{AllPairs-filte
 use Rattle.ptu_units.specs.declared.kind.Kind.{Kind}
 use Rattle.ptu_units.specs.{declared.client.Client.{Client}, Client.{table_of}}
 use Rattle.ptu_history.specs.History.{Record, Granted, Shed, Short, capacity_in_force}
-use Rattle.ptu_history.specs.Moments.{book_moment}
+use Rattle.ptu_history.specs.{Moments.{book_moment}, Step.{verdict_records}}
 use Rattle.ptu_history.specs.Verdict as history
 use Rattle.ptu_history.specs.Verdict.{Config, OutsideCause, others, own_rate, profile, rate_sum, table_rates, verdict}
-use Rattle.ptu_history.specs.Step.{verdict_records}
 use Rattle.ptu_history.proofs.{Capacities.{capacity_in_force-unchanged}, Verdicts.{verdict-outside}}
 use Rattle.ptu_history.proofs.Rates.{rates-own, rates-tables, table_below}
 use Rattle.ptu_profile.specs.declared.grandmaster.GmConfig.{GmConfig}
 use Rattle.ptu_shard.specs.declared.lease.Row.{Row}
 use Rattle.ptu_shard.specs.{Row.{IsDistinctByLease, share_of, without_row}, Table.{Kept, StandsAt}}
 use Rattle.ptu_shard.proofs.RowLists as rows
-use Rattle.ptu_admit.specs.Book.{KeptBook}
+use Rattle.ptu_admit.specs.{Book.{KeptBook}, Rows.{kept_rate, live_rows}, Tables.{IsSwept}}
 use Rattle.ptu_admit.specs.Lent.{EachStandsAt, Lent, StandFor, four, is_lent, live_others, others_in, rates_elsewhere, rows_of_lent, shares}
-use Rattle.ptu_admit.specs.{Rows.{kept_rate, live_rows}, Tables.{IsSwept}}
 use Rattle.ptu_admit.specs.Verdict.{config_of, verdict_beside, verdict_by, verdict_on}
 use Rattle.ptu_admit.proofs.Grants.{elsewhere-fewer, elsewhere-none, live_others-own, live_share, without_live-le}
 use Rattle.ptu_admit.proofs.Lending.{all_lent, each_goes_on, each_passes, elsewhere-later, nothing_elsewhere, of_granted, of_shed, of_short, one_lent, one_of_each, same_false, stand_for, stands_later}

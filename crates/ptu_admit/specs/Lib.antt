@@ -1,5 +1,4 @@
 pub mod Book
-pub mod Terms
 pub mod Verdict
 pub mod Rows
 pub mod Lent

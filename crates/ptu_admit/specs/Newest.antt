@@ -2,8 +2,7 @@
 use Rattle.std.specs.{Prelude.{◌≡◌, ℕ, ◌+◌, ◌<◌, ◌≤◌, List, [], ◌∷◌, ◌++◌, map, length}, List.{Contains}}
 use Rattle.std.specs.{Ordering.{nat_cmp, ordering_then}, declared.cmp.Ordering.{Ordering}}
 use Rattle.ptu_units.specs.Client.{client_cmp, kind_cmp, table_of}
-use Rattle.ptu_history.specs.{History.{Record, Shed}, Live.{Grant}}
-use Rattle.ptu_history.specs.Shedding.{shed_record}
+use Rattle.ptu_history.specs.{History.{Record, Shed}, Live.{Grant}, Shedding.{shed_record}}
 use Rattle.ptu_shard.specs.{declared.lease.Row.{Row}, Row.{IsDistinctByLease}, Table.{Kept, StandsAt}}
 use Rattle.ptu_admit.specs.declared.newest.{Candidate.{Candidate}, Found.{Found}}
 use Rattle.ptu_admit.specs.{declared.shed_list.Shed.{Shed as Answer}, Lent.{Lent, rows_of_lent}}

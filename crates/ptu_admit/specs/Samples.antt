@@ -1,7 +1,6 @@
 -- What a verdict says in numbers, for tests and examples.
-use Rattle.ptu_admit.specs.declared.samples.Told.{Told}
+use Rattle.ptu_admit.specs.{declared.samples.Told.{Told}, declared.verdict.Verdict.{Verdict}}
 use Rattle.ptu_admit.specs.declared.samples.Told.TheVariants as told
-use Rattle.ptu_admit.specs.declared.verdict.Verdict.{Verdict}
 use Rattle.ptu_admit.specs.declared.verdict.Verdict.TheVariants.{Granted, Short, Outside}
 
 abbrev pub told_of : Verdict → Told

@@ -3,8 +3,7 @@
 ghost use Rattle.std.specs.Prelude.{◌≡◌, ℕ, ◌+◌, ◌-◌, ◌≤◌, ◌<◌, max, false, List, [], ◌∷◌, ◌++◌, IfSome, IfNone, OnSome};
 ghost use Rattle.std.specs.Option.{option_map};
 ghost use Rattle.ptu_units.specs.Client.{table_of as table_of_client};
-ghost use Rattle.ptu_history.specs.History.{Record};
-ghost use Rattle.ptu_history.specs.{Verdict.{verdict}, Events.{Request}};
+ghost use Rattle.ptu_history.specs.{History.{Record}, Verdict.{verdict}, Events.{Request}};
 ghost use Rattle.ptu_history.specs.Step.{step, verdict_records};
 ghost use Rattle.ptu_shard.specs.Row.{share_of};
 ghost use Rattle.ptu_admit.specs.Alone.{GoesOnAlone, IsDecidedIn};

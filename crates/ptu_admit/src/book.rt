@@ -2,8 +2,7 @@
 //! requests are decided with one table alone.
 
 ghost use Rattle.std.specs.Prelude.{◌≡◌, ◌≤◌, ◌+◌, ◌-◌, List, []};
-ghost use Rattle.ptu_admit.specs.Book.{IsInForce};
-ghost use Rattle.ptu_admit.specs.Lent.{EachStandsAt, Lent, StandFor, shares};
+ghost use Rattle.ptu_admit.specs.{Book.{IsInForce}, Lent.{EachStandsAt, Lent, StandFor, shares}};
 
 use crate::in_force::InForce;
 use ptu_units::{Capacity, Moment};

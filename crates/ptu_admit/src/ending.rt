@@ -2,9 +2,8 @@
 
 ghost use Rattle.std.specs.Prelude.{◌≡◌, ℕ, ◌+◌, ◌≤◌, max, false, List, ◌∷◌, ◌++◌};
 ghost use Rattle.ptu_units.specs.Client.{table_of as table_of_client};
-ghost use Rattle.ptu_history.specs.History.{Record};
+ghost use Rattle.ptu_history.specs.{History.{Record}, Step.{step}};
 ghost use Rattle.ptu_history.specs.{Live.{live}, Verdict.{Config, table_rates}, Events.{Cancel}};
-ghost use Rattle.ptu_history.specs.Step.{step};
 ghost use Rattle.ptu_shard.specs.Row.{share_of};
 ghost use Rattle.ptu_admit.specs.Alone.{GoesOnAlone};
 ghost use Rattle.ptu_admit.specs.Lent.{Lent, StandFor, four, is_lent, moment_for_all, shares, table_for};

@@ -2,16 +2,14 @@
 
 ghost use Rattle.std.specs.Prelude.{◌≡◌, ◌≢◌, ℕ, ◌+◌, ◌-◌, ◌*◌, ◌≤◌, ◌<◌, min, nat_le, List, [], ◌∷◌, ◌++◌, IfSome, IfNone};
 ghost use Rattle.ptu_units.specs.{Client.{table_of}, Log.{period_of, rate_of}, Time.{second}};
-ghost use Rattle.ptu_admit.specs.Book.{IsInForce};
-ghost use Rattle.ptu_history.specs.History.{Granted, Record};
-ghost use Rattle.ptu_history.specs.Step.{verdict_records};
+ghost use Rattle.ptu_admit.specs.{Book.{IsInForce}, Rows.{kept_rate}, Tables.{KeepsPort}};
+ghost use Rattle.ptu_history.specs.{History.{Granted, Record}, Step.{verdict_records}};
 ghost use Rattle.ptu_shard.specs.{Row.{IsDistinctByLease, share_of}, Table.{StandsBeside}};
-ghost use Rattle.ptu_admit.specs.{Rows.{kept_rate}, Tables.{KeepsPort}};
 ghost use Rattle.ptu_admit.specs.Verdict.{IsAt, IsFor, OnOutside, config_of, verdict_of, verdict_on};
 
 use crate::book::Book;
 use crate::profile::Wanted;
-use crate::verdict::{Grant, Shortage, Verdict};
+use crate::verdict::{Grant, Lack, Shortage, Terms, Verdict};
 use ptu_outside::Port;
 use ptu_profile::GmConfig;
 use ptu_shard::{Lease, Shard};
@@ -144,7 +142,14 @@ pub(crate) fn grant<P: Port>(
     );
     book.settle(before, shard.held());
     book.reach(at);
-    Grant::new(*client, wanted, at, seconds, until)
+    Grant::new(Terms {
+        kind: wanted.kind,
+        log: wanted.log,
+        seconds,
+        at,
+        until,
+        client: *client,
+    })
 }
 
 /// Decides an ask within the profile, on the client's table, at the table's moment, where the rows
@@ -184,6 +189,13 @@ pub(crate) fn decide_swept<P: Port>(
         Verdict::Granted(grant(shard, book, config, at, client, wanted))
     } else {
         book.reach(at);
-        Verdict::Short(Shortage::new(wanted, at, others, rate, capacity))
+        Verdict::Short(Shortage::new(Lack {
+            kind: wanted.kind,
+            log: wanted.log,
+            at,
+            others,
+            rate,
+            capacity,
+        }))
     }
 }

@@ -3,15 +3,13 @@
 
 ghost use Rattle.std.specs.Prelude.{◌≡◌, ℕ, ◌≤◌, ◌⊎◌, max, true, List, [], ◌∷◌, ◌++◌};
 ghost use Rattle.ptu_units.specs.{declared.client.Client.{Client}, Client.{table_of}};
-ghost use Rattle.ptu_history.specs.Core.{book_step_moment, table_step_moment};
+ghost use Rattle.ptu_history.specs.{Core.{book_step_moment, table_step_moment}, Step.{step}};
 ghost use Rattle.ptu_history.specs.{Events.{DelayReq, Turn}, History.{Record}};
-ghost use Rattle.ptu_history.specs.Step.{step};
 ghost use Rattle.ptu_history.specs.Verdict.{Config, table_rates};
 ghost use Rattle.ptu_shard.specs.{declared.lease.Row.{Row}, Row.{IsDistinctByLease, share_of}};
 ghost use Rattle.ptu_shard.specs.Table.{StandsAt};
-ghost use Rattle.ptu_admit.specs.Book.{KeptBook};
+ghost use Rattle.ptu_admit.specs.{Book.{KeptBook}, Rows.{live_rows}};
 ghost use Rattle.ptu_admit.specs.Lent.{Lent, StandAfterSends, StandFor, is_lent, moment_for, moment_for_all};
-ghost use Rattle.ptu_admit.specs.Rows.{live_rows};
 
 /// The order in which tables are lent does not matter: each may be the first.
 pub fn lent_first()

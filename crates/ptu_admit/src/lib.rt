@@ -28,4 +28,4 @@ pub use in_force::InForce;
 pub use live::{Live, live_in};
 pub use resizing::{Resized, resize};
 pub use shed_list::{Shed, ShedList};
-pub use verdict::{Grant, Outside, Shortage, Verdict};
+pub use verdict::{Grant, Lack, Outside, Shortage, Terms, Verdict};

@@ -4,7 +4,6 @@
 ghost use Rattle.std.specs.Prelude.{◌≡◌, ◌<◌, ◌+◌, ◌*◌};
 ghost use Rattle.ptu_units.specs.Time.{second};
 
-use crate::profile::Wanted;
 use ptu_units::{Client, Kind, Log, Moment};
 use std::marker::Model;
 
@@ -30,102 +29,58 @@ pub enum Outside {
     Duration,
 }
 
+/// What was granted: to a client a kind at a logarithm, at a moment, for so many seconds.
+#[derive(Clone, Copy)]
+pub struct Terms {
+    // (in an order that leaves few octets unused between them, since a verdict is copied often)
+    /// The kind that is granted.
+    pub kind: Kind,
+    /// The logarithm of the interval that is granted.
+    pub log: Log,
+    /// For how many seconds.
+    pub seconds: u32,
+    /// When it was granted.
+    pub at: Moment,
+    /// The end of the granted duration, in nanoseconds.
+    pub until: u64,
+    /// The client that got the grant.
+    pub client: Client,
+}
+
 /// A grant as it is answered. Only this crate makes one.
 #[derive(Clone, Copy)]
 pub struct Grant {
-    // (in an order that leaves few octets unused between them, since a verdict is copied often)
-    kind: Kind,
-    log: Log,
-    seconds: u32,
-    at: Moment,
-    until: u64,
-    client: Client,
+    terms: Terms,
 }
 
 impl Model for Grant {
     ghost use Rattle.std.specs.Prelude.{◌≡◌, ◌+◌, ◌*◌};
     ghost use Rattle.ptu_units.specs.Time.{second};
-    ghost use Rattle.ptu_admit.specs.Terms.{Terms};
+    ghost use Rattle.ptu_admit.specs.declared.verdict.Terms.{Terms};
 
     ghost Value = { Terms };
 
-    ghost view = { λ g. record {
-      client = g.client;
-      kind = g.kind;
-      log = g.log;
-      at = g.at;
-      seconds = g.seconds;
-      until = g.until;
-    } };
+    ghost view = { λ g. g.terms };
 
-    ghost invariant = { λ g. g.until ≡ g.at + g.seconds * second };
+    ghost invariant = { λ g. g.terms.until ≡ g.terms.at + g.terms.seconds * second };
 
-    ghost inverse = { λ g. record {
-      client = g.client;
-      kind = g.kind;
-      log = g.log;
-      at = g.at;
-      seconds = g.seconds;
-      until = g.until;
-    } };
+    ghost inverse = { λ t. record { terms = t } };
 }
 
 impl Grant {
-    // A grant of what the client wanted, for so many seconds from the moment on.
-    pub(crate) fn new(client: Client, wanted: Wanted, at: Moment, seconds: u32, until: u64) -> Grant
-        requires { until ≡ at + seconds * second }
-        ensures { result ≡ record {
-          client = client;
-          kind = wanted.kind;
-          log = wanted.log;
-          at = at;
-          seconds = seconds;
-          until = until;
-        } }
+    // The grant on these terms.
+    pub(crate) fn new(terms: Terms) -> Grant
+        requires { terms.until ≡ terms.at + terms.seconds * second }
+        ensures { result ≡ terms }
     {
-        Grant {
-            client,
-            kind: wanted.kind,
-            log: wanted.log,
-            at,
-            seconds,
-            until,
-        }
-    }
-
-    /// The client that got the grant.
-    pub fn client(&self) -> Client
-        ensures { result ≡ self.now.client }
-    {
-        self.client
-    }
-
-    /// The kind that is granted.
-    pub fn kind(&self) -> Kind
-        ensures { result ≡ self.now.kind }
-    {
-        self.kind
-    }
-
-    /// The logarithm of the interval that is granted.
-    pub fn log(&self) -> Log
-        ensures { result ≡ self.now.log }
-    {
-        self.log
+        Grant { terms }
     }
 
     /// When it was granted.
     pub fn at(&self) -> Moment
         ensures { result ≡ self.now.at }
     {
-        self.at
-    }
-
-    /// For how many seconds.
-    pub fn seconds(&self) -> u32
-        ensures { result ≡ self.now.seconds }
-    {
-        self.seconds
+        self.terms.at
     }
 
     /// The end of the granted duration, in nanoseconds.
@@ -133,105 +88,90 @@ impl Grant {
         ensures value { result ≡ self.now.until }
         ensures duration { result ≡ self.now.at + self.now.seconds * second }
     {
-        self.until
+        self.terms.until
+    }
+
+    /// For how many seconds.
+    pub fn seconds(&self) -> u32
+        ensures { result ≡ self.now.seconds }
+    {
+        self.terms.seconds
+    }
+
+    /// All that it says.
+    pub fn terms(self) -> Terms
+        ensures { result ≡ self }
+    {
+        self.terms
     }
 }
 
-/// What an ask lacks that does not fit: the rates of the other live grants and its own, in
-/// sixteenths of a message per second, are above the capacity in force. Only this crate makes one.
+/// What did not fit: a kind at a logarithm, at a moment. Rates are in sixteenths of a message per
+/// second.
+#[derive(Clone, Copy)]
+pub struct Lack {
+    /// The kind that was asked for.
+    pub kind: Kind,
+    /// The logarithm of the interval that was asked for.
+    pub log: Log,
+    /// When it was decided.
+    pub at: Moment,
+    /// The sum of the rates of the other live grants.
+    pub others: u64,
+    /// The rate that was asked for.
+    pub rate: u64,
+    /// The capacity in force.
+    pub capacity: u64,
+}
+
+/// What an ask lacks that does not fit: the rates of the other live grants and its own are above
+/// the capacity in force. Only this crate makes one.
 #[derive(Clone, Copy)]
 pub struct Shortage {
-    kind: Kind,
-    log: Log,
-    at: Moment,
-    others: u64,
-    rate: u64,
-    capacity: u64,
+    lack: Lack,
 }
 
 impl Model for Shortage {
     ghost use Rattle.std.specs.Prelude.{◌<◌, ◌+◌};
-    ghost use Rattle.ptu_admit.specs.Terms.{Lack};
+    ghost use Rattle.ptu_admit.specs.declared.verdict.Lack.{Lack};
 
     ghost Value = { Lack };
 
-    ghost view = { λ s. record {
-      kind = s.kind;
-      log = s.log;
-      at = s.at;
-      others = s.others;
-      rate = s.rate;
-      capacity = s.capacity;
-    } };
+    ghost view = { λ s. s.lack };
 
-    ghost invariant = { λ s. s.capacity < s.others + s.rate };
+    ghost invariant = { λ s. s.lack.capacity < s.lack.others + s.lack.rate };
 
-    ghost inverse = { λ s. record {
-      kind = s.kind;
-      log = s.log;
-      at = s.at;
-      others = s.others;
-      rate = s.rate;
-      capacity = s.capacity;
-    } };
+    ghost inverse = { λ l. record { lack = l } };
 }
 
 impl Shortage {
-    // What is short of what was wanted, beside other live grants with these rates.
-    pub(crate) fn new(wanted: Wanted, at: Moment, others: u64, rate: u64, capacity: u64) -> Shortage
-        requires { capacity < others + rate }
-        ensures { result ≡ record {
-          kind = wanted.kind;
-          log = wanted.log;
-          at = at;
-          others = others;
-          rate = rate;
-          capacity = capacity;
-        } }
+    // The shortage by this lack.
+    pub(crate) fn new(lack: Lack) -> Shortage
+        requires { lack.capacity < lack.others + lack.rate }
+        ensures { result ≡ lack }
     {
-        Shortage {
-            kind: wanted.kind,
-            log: wanted.log,
-            at,
-            others,
-            rate,
-            capacity,
-        }
-    }
-
-    /// The kind that was asked for.
-    pub fn kind(&self) -> Kind
-        ensures { result ≡ self.now.kind }
-    {
-        self.kind
-    }
-
-    /// The logarithm of the interval that was asked for.
-    pub fn log(&self) -> Log
-        ensures { result ≡ self.now.log }
-    {
-        self.log
+        Shortage { lack }
     }
 
     /// When it was decided.
     pub fn at(&self) -> Moment
         ensures { result ≡ self.now.at }
     {
-        self.at
+        self.lack.at
     }
 
     /// The sum of the rates of the other live grants.
     pub fn others(&self) -> u64
         ensures { result ≡ self.now.others }
     {
-        self.others
+        self.lack.others
     }
 
     /// The rate that was asked for.
     pub fn rate(&self) -> u64
         ensures { result ≡ self.now.rate }
     {
-        self.rate
+        self.lack.rate
     }
 
     /// The capacity in force.
@@ -239,6 +179,13 @@ impl Shortage {
         ensures value { result ≡ self.now.capacity }
         ensures above { result < self.now.others + self.now.rate }
     {
-        self.capacity
+        self.lack.capacity
+    }
+
+    /// All that it says.
+    pub fn lack(self) -> Lack
+        ensures { result ≡ self }
+    {
+        self.lack
     }
 }

@@ -3,7 +3,7 @@ use Rattle.std.proofs.Common.{◌≡◌, ◌∙◌, ℕ, ◌<◌, ◌≤◌, Lis
 use Rattle.std.proofs.lemmas.{Bool.{cases_Bool, lt-ltb, ltb-false, ltb-true}, List.{append-nil}, Option.{same_Some}}
 use Rattle.ptu_config.specs.declared.key.Key.{Key}
 use Rattle.ptu_config.specs.declared.refusal.{RefusalLine.{RefusalLine}, RefusalLine.TheVariants.{Size}}
-use Rattle.ptu_config.specs.declared.setup_fault.{SetupFault.{SetupFault}, SetupFault.TheVariants.{Refused, Read, OutOfMemory}}
+use Rattle.ptu_config.specs.declared.fault.{SetupFault.{SetupFault}, SetupFault.TheVariants.{Refused, Read, OutOfMemory}}
 use Rattle.ptu_config.specs.{Reading.{Answers, HasTaken}, Refusals.{gm_refusal, slave_refusal}, Rules.{Value}}
 
 -- too many octets are refused by their number

@@ -1,11 +1,9 @@
 -- Whether a document names a control port.
 use Rattle.std.proofs.Common.{◌≡◌, ℕ, zero, suc, List, [], ◌∷◌, if◌then◌else◌, Bool, true, false, Option, Some, None, pos, negsuc, codes, refl}
-use Rattle.std.specs.Prelude.{is_some}
-use Rattle.std.specs.List.{list_all}
+use Rattle.std.specs.{Prelude.{is_some}, List.{list_all}}
 use Rattle.toml.specs.Data.{Data, string, integer, float, boolean, datetime, array, table, Members, get_member}
-use Rattle.ptu_config.specs.declared.key.Key.{Key}
+use Rattle.ptu_config.specs.{declared.key.Key.{Key}, Entries.{number_or_nothing}}
 use Rattle.ptu_config.specs.declared.key.Key.TheVariants.{ControlPort, EventPort, GeneralPort}
-use Rattle.ptu_config.specs.Entries.{number_or_nothing}
 use Rattle.ptu_config.specs.Rules.{Value, number, logarithm, truth, masters, nothing, is_above_zero, is_other_than, read_by, rule_of, setting_of, unlike}
 
 by_test : (test : Bool) (n : ℕ) (p : Option ℕ) → (if test then Some (number n) else None) ≡ Some (number_or_nothing p) → true ≡ is_some p

@@ -1,8 +1,7 @@
 -- The masters of the values read so far, followed by those of the values that are left.
 use Rattle.std.proofs.Common.{List, ◌++◌, Option, option_map}
 use Rattle.toml.specs.{declared.value.Value.{Value}, View.{items_view}}
-use Rattle.ptu_config.specs.declared.master.MasterSetting.{MasterSetting}
-use Rattle.ptu_config.specs.Masters.{masters_of}
+use Rattle.ptu_config.specs.{declared.master.MasterSetting.{MasterSetting}, Masters.{masters_of}}
 
 -- these masters, followed by those of these values
 abbrev pub followed : List MasterSetting → List Value → Option (List MasterSetting)

@@ -2,9 +2,8 @@
 use Rattle.std.proofs.Common.{◌≡◌, ℕ, List, [], ◌∷◌, Option, Some, refl, sym, ◌∙◌, ap}
 use Rattle.std.specs.Prelude.{find, bytes_eq}
 use Rattle.std.proofs.lemmas.Option.{same_Some}
-use Rattle.ptu_config.specs.declared.key.Key.{Key}
+use Rattle.ptu_config.specs.{declared.key.Key.{Key}, Key.{name_of}}
 use Rattle.ptu_config.specs.declared.key.Key.TheVariants.{Ip, EventPort, GeneralPort, Clock, Port, Domain, Rounds, Repeat, Class, Capacity, MaxDuration, Epoch, Senders, ChangeRound, NewCapacity, TwoStep, ControlPort, ControlKey, WaitToRestore, AnnounceTimeout, SyncTimeout, DelayTimeout, LogAnnounce, LogSync, LogDelay, Duration, Masters}
-use Rattle.ptu_config.specs.Key.{name_of}
 
 abbrev pub all_keys : List Key
 all_keys = Ip ∷ EventPort ∷ GeneralPort ∷ Clock ∷ Port ∷ Domain ∷ Rounds ∷ Repeat ∷ Class ∷ Capacity

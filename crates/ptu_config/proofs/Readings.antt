@@ -3,9 +3,8 @@ use Rattle.std.proofs.Common.{◌≡◌, ℕ, List, [], ◌∷◌, map, Option, 
 use Rattle.std.specs.{Prelude.{is_some}, List.{AllByRecursion}}
 use Rattle.std.proofs.lemmas.{Bool.{cases_Bool}, Option.{same_Some}}
 use Rattle.toml.specs.Data.{Members}
-use Rattle.ptu_config.specs.declared.key.Key.{Key}
+use Rattle.ptu_config.specs.{declared.key.Key.{Key}, Forms.{has_only}, Rules.{Value, setting_of}}
 use Rattle.ptu_config.specs.declared.fault.SettingFault.TheVariants.{Size, Unknown, Bad}
-use Rattle.ptu_config.specs.{Forms.{has_only}, Rules.{Value, setting_of}}
 use Rattle.ptu_config.specs.Documents.{Reads, Says, document_of, first_bad, is_name_of, refusal_of, table_refusal, text_refusal}
 
 abbrev pub keys_of : List (Key × Value) → List Key

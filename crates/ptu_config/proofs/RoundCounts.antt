@@ -1,7 +1,5 @@
 -- How many rounds a daemon may do.
-use Rattle.std.proofs.Common.{◌≤◌, ◌*◌, ℕ}
-use Rattle.std.proofs.Math.Nat.{one-le-mul}
-use Rattle.std.proofs.lemmas.Nat.{mul-le}
+use Rattle.std.proofs.{Common.{◌≤◌, ◌*◌, ℕ}, Math.Nat.{one-le-mul}, lemmas.Nat.{mul-le}}
 use Rattle.ptu_config.specs.Rounds.{IsRepeat, IsRoundCount}
 
 pub count_of : (rounds repeat : ℕ) → 1 ≤ rounds → rounds ≤ 4294967295 → IsRepeat repeat → IsRoundCount (rounds * repeat)

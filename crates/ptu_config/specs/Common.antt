@@ -1,10 +1,9 @@
 -- What each field of the settings of both nodes stands for.
 use Rattle.std.specs.Prelude.{◌≤◌, List, [], ◌∷◌}
 use Rattle.ptu_units.specs.Limits.{IsDomain, IsPort, IsUdpPort}
-use Rattle.ptu_config.specs.declared.key.Key.{Key}
+use Rattle.ptu_config.specs.{declared.key.Key.{Key}, Rounds.{IsRepeat}}
 use Rattle.ptu_config.specs.declared.key.Key.TheVariants.{Ip, EventPort, GeneralPort, Clock, Port, Domain, Rounds, Repeat}
 use Rattle.ptu_config.specs.{declared.common.Common.{Common}, Rules.{Value, number}}
-use Rattle.ptu_config.specs.Rounds.{IsRepeat}
 
 -- each setting of both nodes with its value, in the order of the settings
 abbrev pub common_entries : Common → List (Key × Value)

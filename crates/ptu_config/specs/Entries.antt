@@ -1,8 +1,7 @@
 -- What each field of the settings stands for.
 use Rattle.std.specs.Prelude.{List, [], ◌∷◌, ℕ, ℤ, Option, Some, None}
-use Rattle.ptu_config.specs.declared.key.Key.{Key}
+use Rattle.ptu_config.specs.{declared.key.Key.{Key}, declared.settings.GmSettings.{GmSettings}}
 use Rattle.ptu_config.specs.declared.key.Key.TheVariants.{Ip, EventPort, GeneralPort, Clock, Port, Domain, Rounds, Repeat, Class, Capacity, MaxDuration, Epoch, Senders, ChangeRound, NewCapacity, TwoStep, ControlPort, ControlKey, WaitToRestore, AnnounceTimeout, SyncTimeout, DelayTimeout, LogAnnounce, LogSync, LogDelay, Duration, Masters}
-use Rattle.ptu_config.specs.declared.settings.GmSettings.{GmSettings}
 use Rattle.ptu_config.specs.declared.settings.SlaveSettings.{SlaveSettings}
 use Rattle.ptu_config.specs.Rules.{Value, number, logarithm, truth, masters, nothing}
 

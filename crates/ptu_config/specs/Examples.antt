@@ -1,7 +1,8 @@
--- Small documents to compute on.
-use Rattle.std.specs.Prelude.{ℕ, false, List, codes, ℤ, pos, None}
+-- Small documents and datagrams to compute on.
+use Rattle.std.specs.Prelude.{ℕ, false, List, ◌++◌, codes, ℤ, pos, Option, None, Result}
 use Rattle.toml.specs.Data.{Data, string, integer, array, table, item, no_items, Members, member, no_members}
 use Rattle.ptu_config.specs.declared.settings.GmSettings.{GmSettings}
+use Rattle.ptu_config.specs.{declared.command.Command.{Command}, declared.command.Cause.{Cause}, Commands.{order_asked}}
 
 -- the required settings of a grandmaster, line by line
 abbrev pub gm_text : List ℕ
@@ -15,17 +16,17 @@ gm_document capacity =
     (member (codes "ip") (string (codes "127.0.0.1"))
     (member (codes "rounds") (integer (pos 1)) no_members)))
 
--- the settings of that document with the capacity 8, and with so many rounds, so many times over
-abbrev pub repeated : ℕ → ℕ → GmSettings
-repeated rounds repeat = record {
+-- the settings of that document with the capacity 8
+abbrev pub gm_defaults : GmSettings
+gm_defaults = record {
   ip = 2130706433;
   event_port = 319;
   general_port = 320;
   clock = 720575940379279361;
   port = 1;
   domain = 4;
-  rounds = rounds;
-  repeat = repeat;
+  rounds = 1;
+  repeat = 1;
   class = 84;
   capacity = 8;
   max_duration = 1000;
@@ -38,9 +39,9 @@ repeated rounds repeat = record {
   control_key = None;
 }
 
--- those settings as the document has them, where one round is done once
-abbrev pub gm_defaults : GmSettings
-gm_defaults = repeated 1 1
+-- those settings with so many rounds, so many times over
+abbrev pub repeated : ℕ → ℕ → GmSettings
+repeated rounds repeat = record gm_defaults { rounds = rounds; repeat = repeat }
 
 -- that document with one member more
 abbrev pub gm_with : List ℕ → Data → Members
@@ -63,3 +64,11 @@ master_table ip judge =
 abbrev pub two_masters : List ℕ → Data
 two_masters ip = array (item (master_table ip (codes "gap"))
     (item (master_table (codes "10.0.0.1") (codes "flag")) no_items))
+
+-- what these octets ask a grandmaster with the key 0a00000000000001
+abbrev pub asked_by : List ℕ → Option (Result Command Cause)
+asked_by octets = order_asked 720575940379279361 octets
+
+-- what its key and these octets behind it ask it
+abbrev pub asked_with : List ℕ → Option (Result Command Cause)
+asked_with octets = asked_by (codes "0a00000000000001" ++ octets)

@@ -7,9 +7,9 @@ pub mod Entries
 pub mod Rounds
 pub mod Common
 pub mod Limits
-pub mod Examples
 pub mod Refusals
 pub mod Reading
-pub mod Samples
 pub mod Commands
+pub mod Examples
+pub mod Samples
 pub mod Answers

@@ -1,9 +1,8 @@
 -- The ranges of settings that were read, for those who take them.
 use Rattle.std.specs.Prelude.{ℕ, ◌-◌, ◌≡◌, ◌≢◌, ◌<◌, ◌≤◌, true, IsSome, IfSome}
 use Rattle.ptu_units.specs.declared.kind.Kind.TheVariants.{Announce, Sync, DelayResp}
-use Rattle.ptu_units.specs.Log.{IsLogOf}
+use Rattle.ptu_units.specs.{Log.{IsLogOf}, Limits.{least_udp_port, greatest_udp_port}}
 use Rattle.ptu_units.specs.Limits.{IsCapacity, IsDomain, IsDuration, IsEpoch, IsPort, IsSenders, IsTimeout, IsUdpPort, IsWait}
-use Rattle.ptu_units.specs.Limits.{least_udp_port, greatest_udp_port}
 use Rattle.ptu_config.specs.declared.settings.GmSettings.{GmSettings}
 use Rattle.ptu_config.specs.{declared.settings.SlaveSettings.{SlaveSettings}, Masters.{are_masters}, Rounds.{IsRepeat}}
 

@@ -3,8 +3,8 @@ use Rattle.std.specs.Prelude.{◌≡◌, ◌≤◌, ℕ, List, length, Option, S
 use Rattle.std.specs.Io.KnownBytes.{IsAtEnd, prepend_known}
 use Rattle.ptu_outside.specs.Faults.{HasRisen}
 use Rattle.ptu_config.specs.{declared.key.Key.{Key}, Documents.{Reads}, Rules.{Value}}
-use Rattle.ptu_config.specs.declared.setup_fault.SetupFault.{SetupFault}
-use Rattle.ptu_config.specs.declared.setup_fault.SetupFault.TheVariants.{Refused, Read, OutOfMemory}
+use Rattle.ptu_config.specs.declared.fault.SetupFault.{SetupFault}
+use Rattle.ptu_config.specs.declared.fault.SetupFault.TheVariants.{Refused, Read, OutOfMemory}
 use Rattle.ptu_config.specs.declared.refusal.RefusalLine.{RefusalLine}
 
 -- these octets were taken of what was left: to the end, or to the 65537th

@@ -7,8 +7,8 @@ use Rattle.ptu_config.specs.declared.fault.SettingFault.TheVariants as faults
 use Rattle.ptu_config.specs.declared.master.MasterSetting.{MasterSetting}
 use Rattle.ptu_config.specs.{Documents.{document_of, refusal_of}, Key.{name_of}}
 use Rattle.ptu_config.specs.Rules.{Value, masters, gm_keys, setting_of, slave_keys}
-use Rattle.ptu_config.specs.declared.setup_fault.SetupFault.{SetupFault}
-use Rattle.ptu_config.specs.declared.setup_fault.SetupFault.TheVariants.{Refused, OutOfMemory}
+use Rattle.ptu_config.specs.declared.fault.SetupFault.{SetupFault}
+use Rattle.ptu_config.specs.declared.fault.SetupFault.TheVariants.{Refused, OutOfMemory}
 use Rattle.ptu_config.specs.declared.refusal.RefusalLine.{RefusalLine}
 use Rattle.ptu_config.specs.declared.refusal.RefusalLine.TheVariants.{Size, Text, Unknown, Bad}
 

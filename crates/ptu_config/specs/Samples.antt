@@ -2,9 +2,8 @@
 use Rattle.std.specs.Prelude.{◌≡◌, codes, Some, None}
 use Rattle.toml.specs.Data.{member, no_members}
 use Rattle.ptu_config.specs.declared.key.Key.TheVariants.{Capacity, NewCapacity, Masters}
-use Rattle.ptu_config.specs.Examples.{two_masters}
+use Rattle.ptu_config.specs.{Examples.{two_masters}, Refusals.{setting_refusal_text, unjudged}}
 use Rattle.ptu_config.specs.declared.refusal.RefusalLine.TheVariants.{Size, Text, Unknown, Bad}
-use Rattle.ptu_config.specs.Refusals.{setting_refusal_text, unjudged}
 
 abbrev pub LinesAreWritten : Type 0
 LinesAreWritten =

@@ -1,10 +1,8 @@
 //! Reads what a datagram of the control port asks for.
 
-ghost use Rattle.std.specs.Prelude.{◌≡◌, codes};
-ghost use Rattle.std.specs.List.{list_all};
-ghost use Rattle.ptu_lines.specs.Script.{is_plain};
+ghost use Rattle.std.specs.{Prelude.{◌≡◌, codes}, List.{list_all}};
+ghost use Rattle.ptu_lines.specs.{Script.{is_plain}, Words.{number_within}};
 ghost use Rattle.ptu_config.specs.Commands.{order_asked, commanded_capacity, commanded_class, commanded, is_command_for, is_known, request_line, word_or_empty};
-ghost use Rattle.ptu_lines.specs.Words.{number_within};
 ghost use Rattle.ptu_units.specs.Limits.{least_capacity, greatest_capacity};
 
 use crate::command::{Cause, Command};

@@ -1,11 +1,10 @@
 //! The settings of a grandmaster.
 ghost use Rattle.std.specs.Prelude.{◌≡◌, ◌<◌, ◌≤◌, ◌==◌, ◌||◌, if◌then◌else◌, None, Some, IsSome, IfSome, MatchOption, IfOk, IfErr, OnOk, option_map};
 ghost use Rattle.toml.specs.View.{table_view, view};
-ghost use Rattle.ptu_config.specs.Rules.{gm_keys, setting_of, number};
+ghost use Rattle.ptu_config.specs.{Rules.{gm_keys, setting_of, number}, Forms.{whole_in}};
 ghost use Rattle.ptu_config.specs.Documents.{IsSaid, Reads, Refuses, Says, first_bad, refusal_of};
 ghost use Rattle.ptu_config.specs.Entries.{gm_entries, number_or_nothing};
 ghost use Rattle.ptu_config.specs.Limits.{IsControlPort, IsGmInRange, greatest_control_port};
-ghost use Rattle.ptu_config.specs.Forms.{whole_in};
 ghost use Rattle.ptu_units.specs.Limits.{IsCapacity, least_udp_port};
 
 use crate::common::{Common, common_of};

@@ -4,13 +4,12 @@ ghost use Rattle.std.specs.Prelude.{◌≡◌, ◌<◌, ℕ, true, false, Bool, 
 ghost use Rattle.std.specs.List.{AllByRecursion};
 ghost use Rattle.toml.specs.Data.{Members, get_member, integer, member, string, no_members, array, no_items};
 ghost use Rattle.toml.specs.Parse.{parse_document};
-ghost use Rattle.ptu_config.specs.declared.key.Key.{Key};
+ghost use Rattle.ptu_config.specs.{declared.key.Key.{Key}, Entries.{gm_entries, slave_entries}};
 ghost use Rattle.ptu_config.specs.declared.settings.GmSettings.{GmSettings};
 ghost use Rattle.ptu_config.specs.{declared.settings.SlaveSettings.{SlaveSettings}, Key.{name_of}};
 ghost use Rattle.ptu_config.specs.{Forms.{address_in, identity_in}, Masters.{masters_in}};
 ghost use Rattle.ptu_config.specs.Rules.{Value, gm_keys, serving_keys, slave_keys, setting_of, number, nothing};
 ghost use Rattle.ptu_config.specs.Documents.{Reads, Says, document_of, refusal_of, table_refusal};
-ghost use Rattle.ptu_config.specs.Entries.{gm_entries, slave_entries};
 ghost use Rattle.ptu_config.specs.Limits.{greatest_control_port};
 ghost use Rattle.ptu_config.specs.Examples.{gm_text, gm_document, gm_defaults, gm_spoken_to, gm_with, repeated, sample_key, two_masters};
 ghost use Rattle.ptu_config.specs.Rounds.{all_rounds, all_slave_rounds};

@@ -164,7 +164,10 @@ pub(crate) fn master_list(alloc: Global, table: &Table) -> Result<MasterList, Se
     let Some(value) = lookup(table, Key::Masters.name()) else {
         return Err(SettingFault::Bad(Key::Masters));
     };
-    match list_in(alloc, value)? {
+    let Ok(found) = list_in(alloc, value) else {
+        return Err(SettingFault::OutOfMemory);
+    };
+    match found {
         Some(list) => Ok(list),
         None => Err(SettingFault::Bad(Key::Masters)),
     }

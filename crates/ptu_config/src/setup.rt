@@ -7,13 +7,13 @@ ghost use Rattle.ptu_config.specs.Limits.{IsGmInRange, IsSlaveInRange};
 ghost use Rattle.ptu_config.specs.Reading.{Answers, CountsRead, HasSetUp, HasTakenSome, IsNoFailure};
 ghost use Rattle.ptu_config.specs.Refusals.{by_flags, by_gaps, gm_refusal, slave_refusal, HasJudges};
 
+use crate::fault::SetupFault;
 use crate::gm::gm_settings;
 use crate::key::Key;
 use crate::master::MasterSetting;
 use crate::octets::read_octets;
 use crate::refusal::RefusalLine;
 use crate::settings::{GmSettings, SlaveSettings};
-use crate::setup_fault::SetupFault;
 use crate::slave::slave_settings;
 use ptu_outside::Source;
 use std::alloc::Global;

@@ -231,8 +231,13 @@ pub fn serve_within<W: Threads + Wait + Sync, H: Host, K: Sink>(
         host.close(opened);
         return Err(DaemonFault::Open);
     };
-    let (back, control, closing) = serve_over(rt, alloc, threads, settings, opened, control)?;
-    let text = closing_text(alloc, &closing)?;
+    let Ok((back, control, closing)) = serve_over(rt, alloc, threads, settings, opened, control)
+    else {
+        return Err(DaemonFault::OutOfMemory);
+    };
+    let Ok(text) = closing_text(alloc, &closing) else {
+        return Err(DaemonFault::OutOfMemory);
+    };
     host.close(back);
     close_control(host, control);
     put(sink, text.as_str())

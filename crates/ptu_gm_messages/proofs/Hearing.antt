@@ -2,23 +2,19 @@
 use Rattle.std.proofs.Common.{◌≡◌, ◌≢◌, ℕ, ◌<◌, ◌≤◌, List, get_or, Bool, true, false, Result, Ok, Err, refl, sym, ap, subst, ◌∙◌}
 use Rattle.std.specs.{Prelude.{◌==◌, slice_range, IfOk, if◌then◌else◌}, Result.{OnErr}}
 use Rattle.ptu_units.specs.declared.memory.OutOfMemory.{OutOfMemory}
-use Rattle.ptu_messages.specs.declared.header.Header.{Header}
-use Rattle.ptu_messages.specs.declared.message.Body.{Body}
+use Rattle.ptu_messages.specs.{declared.header.Header.{Header}, declared.message.Body.{Body}}
 use Rattle.ptu_messages.specs.declared.message.Body.TheVariants as body
-use Rattle.ptu_messages.specs.declared.message.Message.{Message}
-use Rattle.ptu_messages.specs.declared.fault.MessageFault.{MessageFault}
+use Rattle.ptu_messages.specs.{declared.message.Message.{Message}, Reading.{message_in}}
+use Rattle.ptu_messages.specs.{declared.fault.MessageFault.{MessageFault}, Message.{HasTlvs}}
 use Rattle.ptu_messages.specs.declared.fault.MessageFault.TheVariants as faults
 use Rattle.ptu_messages.specs.{Message.{SpellsMessage, least_length}, MessageFault.{IsSignaling}}
-use Rattle.ptu_messages.specs.Reading.{message_in}
 use Rattle.ptu_messages.proofs.Readings.{found_is, refused_is}
-use Rattle.ptu_profile.specs.declared.grandmaster.GmConfig.{GmConfig}
+use Rattle.ptu_profile.specs.{declared.grandmaster.GmConfig.{GmConfig}, Target.{is_target}}
 use Rattle.ptu_gm_messages.specs.declared.{item.Item.{Item}, reason.GmReason.{GmReason}}
 use Rattle.ptu_gm_messages.specs.declared.reason.GmReason.TheVariants as reasons
 use Rattle.ptu_gm_messages.specs.declared.heard.Heard.{Heard}
 use Rattle.ptu_gm_messages.specs.declared.heard.Heard.TheVariants as heard
 use Rattle.ptu_gm_messages.specs.Items.{AreAnswerable, IsAnswerable, heard_by, heard_in, items_among, items_by, items_in, with_items}
-use Rattle.ptu_messages.specs.Message.{HasTlvs}
-use Rattle.ptu_profile.specs.Target.{is_target}
 use Rattle.ptu_gm_messages.proofs.Octets.{AreOctets, answerable_among, are_octets, part_octets}
 
 -- ---- by the message that was read

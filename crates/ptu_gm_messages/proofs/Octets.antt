@@ -2,10 +2,10 @@
 use Rattle.std.proofs.Common.{ℕ, zero, suc, ◌+◌, ◌/◌, ◌<◌, ◌≤◌, List, [], ◌∷◌, ◌++◌, length, get_or, Option, Some, None, subst, arith}
 use Rattle.std.specs.{Prelude.{slice_index, slice_range}, List.{All}, List.{cons_option}}
 use Rattle.std.proofs.lemmas.List.Elements.{All-cons, All-drop, All-from_get_or, All-head, All-nil, All-tail, All-take}
-use Rattle.ptu_messages.specs.declared.tlv.Tlv.{Tlv}
+use Rattle.ptu_messages.specs.{declared.tlv.Tlv.{Tlv}, Tlv.{SpellsTlv}}
 use Rattle.ptu_messages.specs.declared.tlv.Tlv.TheVariants as tlv
-use Rattle.ptu_messages.specs.Tlv.{SpellsTlv}
 use Rattle.ptu_units.specs.Number.{high_nibble_at}
+use Rattle.ptu_history.proofs.Members.{all_first, all_second}
 use Rattle.ptu_messages.specs.Tlvs.{AreSpelled, SpellsTlvs}
 use Rattle.ptu_gm_messages.specs.declared.item.Item.{Item}
 use Rattle.ptu_gm_messages.specs.Items.{AreAnswerable, HasCode, item_of, items_among}
@@ -18,15 +18,6 @@ AreOctets octets = All IsOctet octets
 
 pub are_octets : (octets : List ℕ) → ((i : ℕ) → get_or octets i 0 < 256) → AreOctets octets
 are_octets octets h = All-from_get_or IsOctet octets 0 (λ i _. h i)
-
--- the two parts of a list
-All-front : {X : Type 0} (P : X → Type 0) → (xs ys : List X) → All P (xs ++ ys) → All P xs
-All-front P [] ys h = All-nil P
-All-front P (x ∷ xs) ys h = All-cons P x xs (All-head P x (xs ++ ys) h) (All-front P xs ys (All-tail P x (xs ++ ys) h))
-
-All-back : {X : Type 0} (P : X → Type 0) → (xs ys : List X) → All P (xs ++ ys) → All P ys
-All-back P [] ys h = h
-All-back P (x ∷ xs) ys h = All-back P xs ys (All-tail P x (xs ++ ys) h)
 
 pub part_octets : (octets : List ℕ) (a b : ℕ) → AreOctets octets → AreOctets (slice_range octets a b)
 part_octets octets a b h = search (All-drop, All-take, h)
@@ -62,8 +53,8 @@ codes_of : (octets : List ℕ) (tlvs : List Tlv) → AreOctets octets → AreSpe
 codes_of octets [] h s = All-nil HasCode
 codes_of octets (t ∷ tlvs) h s =
     let parts : AreOctets (s.0 ++ s.1) = subst AreOctets s.2 h in
-    with_one (item_of t) (items_among tlvs) (code_of_one s.0 t (All-front IsOctet s.0 s.1 parts) s.3)
-    (codes_of s.1 tlvs (All-back IsOctet s.0 s.1 parts) s.4)
+    with_one (item_of t) (items_among tlvs) (code_of_one s.0 t (all_first IsOctet s.0 s.1 parts) s.3)
+    (codes_of s.1 tlvs (all_second IsOctet s.0 s.1 parts) s.4)
 
 no_more : (o : Option Item) (items : List Item) → length (cons_option o items) ≤ length items + 1
 no_more None items = omega arith

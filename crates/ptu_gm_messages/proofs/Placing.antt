@@ -1,13 +1,12 @@
 -- Items one after the other: each is decided after the history with those before it.
 use Rattle.std.proofs.Common.{◌≡◌, ℕ, ◌++◌, List, [], ◌∷◌, map, Option, Some, None, refl, sym, ap, ◌∙◌}
-use Rattle.std.specs.List.{cons_option, filter_map}
+use Rattle.std.specs.{List.{cons_option, filter_map}, Option.{option_map_or}}
 use Rattle.std.proofs.lemmas.List.{append-nil, map-append}
 use Rattle.ptu_units.specs.declared.client.Client.{Client}
 use Rattle.ptu_history.specs.{History.{Record}, Verdict.{Config}}
 use Rattle.ptu_history.specs.{Events.{Event}, Core.{core_step, history_after}}
 use Rattle.ptu_gm_messages.specs.declared.item.Item.{Item}
 use Rattle.ptu_gm_messages.specs.Deciding.{decision_of, decisions_of, event_of, events_of_items, item_records, placed}
-use Rattle.std.specs.Option.{option_map_or}
 
 pub placed-none : (opened : Config) (history : List Record) (t : ℕ) (c : Client) → placed opened history t c [] ≡ []
 unfolding placed

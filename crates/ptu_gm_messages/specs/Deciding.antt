@@ -5,10 +5,9 @@ use Rattle.std.specs.Option.{option_map_or}
 use Rattle.ptu_units.specs.{declared.client.Client.{Client}, Client.{table_of}, Kind.{kind_of}}
 use Rattle.ptu_messages.specs.declared.header.Header.{Header}
 use Rattle.ptu_messages.specs.declared.tlv.{Ask.{Ask}, Tlv.{Tlv}, Tlv.TheVariants.{Ack}}
-use Rattle.ptu_history.specs.History.{Record}
+use Rattle.ptu_history.specs.{History.{Record}, Live.{live}}
 use Rattle.ptu_history.specs.Verdict as verdicts
 use Rattle.ptu_history.specs.Verdict.{Config, Verdict, GrantedFor, ShortOf, Outside, verdict}
-use Rattle.ptu_history.specs.Live.{live}
 use Rattle.ptu_history.specs.Events as events
 use Rattle.ptu_history.specs.{Events.{Event}, Core.{core_step, table_step_moment}}
 use Rattle.ptu_outside.specs.Departure.{Departure}

@@ -1,18 +1,15 @@
 -- What a datagram asks of a grandmaster, or the first reason why it is ignored (IEEE 1588-2019 clauses 13.12 and 16.1; the
 -- order of the reasons is the project's own choice).
 use Rattle.std.specs.Prelude.{ℕ, ◌<◌, ◌≤◌, ◌==◌, if◌then◌else◌, List, All, length, filter_map, Option, Some, None, Result, Ok, Err}
-use Rattle.ptu_messages.specs.declared.header.Header.{Header}
-use Rattle.ptu_messages.specs.declared.tlv.Tlv.{Tlv}
+use Rattle.ptu_messages.specs.{declared.header.Header.{Header}, declared.tlv.Tlv.{Tlv}}
 use Rattle.ptu_messages.specs.declared.tlv.Tlv.TheVariants as tlv
-use Rattle.ptu_messages.specs.declared.message.Body.{Body}
+use Rattle.ptu_messages.specs.{declared.message.Body.{Body}, declared.message.Message.{Message}}
 use Rattle.ptu_messages.specs.declared.message.Body.TheVariants as body
-use Rattle.ptu_messages.specs.declared.message.Message.{Message}
 use Rattle.ptu_messages.specs.{declared.fault.MessageFault.{MessageFault}, Reading.{message_in}}
 use Rattle.ptu_profile.specs.{declared.grandmaster.GmConfig.{GmConfig}, Target.{is_target}}
 use Rattle.ptu_gm_messages.specs.declared.item.{Item.{Item}, Item.TheVariants.{Request, Cancel}}
-use Rattle.ptu_gm_messages.specs.declared.reason.GmReason.{GmReason}
+use Rattle.ptu_gm_messages.specs.{declared.reason.GmReason.{GmReason}, declared.heard.Heard.{Heard}}
 use Rattle.ptu_gm_messages.specs.declared.reason.GmReason.TheVariants.{Fault, UnknownType, Other, Domain, Target}
-use Rattle.ptu_gm_messages.specs.declared.heard.Heard.{Heard}
 use Rattle.ptu_gm_messages.specs.declared.heard.Heard.TheVariants as heard
 
 -- a REQUEST or a CANCEL is an item; every other TLV is skipped

@@ -1,7 +1,7 @@
 -- Datagrams that were made out by hand, field by field, and what the definitions say of them.
 use Rattle.std.specs.Prelude.{◌≡◌, ℕ, List, [], ◌∷◌, ◌++◌, map, take, slice_set, negsuc, pos, Ok, Err}
 use Rattle.ptu_units.specs.declared.kind.Kind.TheVariants as kind
-use Rattle.ptu_messages.specs.declared.tlv.Ask.{Ask}
+use Rattle.ptu_messages.specs.{declared.tlv.Ask.{Ask}, Sent.{octets_sent}}
 use Rattle.ptu_messages.specs.declared.tlv.Tlv.TheVariants as tlv
 use Rattle.ptu_messages.specs.declared.header_fault.HeaderFault.TheVariants.{Short}
 use Rattle.ptu_messages.specs.declared.fault.MessageFault.TheVariants.{Header}
@@ -9,7 +9,6 @@ use Rattle.ptu_messages.specs.Samples as messages
 use Rattle.ptu_history.specs.Events as events
 use Rattle.ptu_history.specs.Examples.{first_client, second_client}
 use Rattle.ptu_profile.specs.declared.grandmaster.GmConfig.{GmConfig}
-use Rattle.ptu_messages.specs.Sent.{octets_sent}
 use Rattle.ptu_messages.specs.TlvsSamples.{announce_request}
 use Rattle.ptu_gm_messages.specs.declared.item.Item.TheVariants.{Request, Cancel}
 use Rattle.ptu_gm_messages.specs.declared.reason.GmReason.TheVariants as reason

@@ -1,8 +1,7 @@
 //! The Signaling messages of a grandmaster (IEEE 1588-2019 clauses 13.12 and 16.1).
 
 ghost use Rattle.std.specs.Prelude.{◌≡◌, ◌≤◌, [], ◌∷◌, length, map, take, drop, All};
-ghost use Rattle.ptu_messages.specs.TlvsSent.{IsSendable};
-ghost use Rattle.ptu_messages.specs.Sent.{AlwaysSpells, octets_sent};
+ghost use Rattle.ptu_messages.specs.{TlvsSent.{IsSendable}, Sent.{AlwaysSpells, octets_sent}};
 ghost use Rattle.ptu_units.specs.Kind.{code_of};
 ghost use Rattle.ptu_gm_messages.specs.Replies.{identity_of, signaling_of};
 

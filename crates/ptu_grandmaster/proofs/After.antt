@@ -1,13 +1,11 @@
 -- What a grandmaster stands for after more records, by what its tables, its book and its counts are then.
 use Rattle.std.proofs.Common.{◌≡◌, ℕ, ◌+◌, ◌%◌, ◌++◌, List, [], ◌∷◌, length, map, refl, sym, ap, subst, ◌∙◌, arith, Some}
 use Rattle.ptu_units.specs.{declared.kind.Kind.{Kind}, Kind.{kind_of}}
-use Rattle.ptu_history.specs.Counts.{counts}
+use Rattle.ptu_history.specs.{Counts.{counts}, Moments.{book_moment}, Shedding.{shed_record}}
 use Rattle.ptu_history.specs.{History.{Record, Capacity, Ended, Looked}, Live.{Grant}}
-use Rattle.ptu_history.specs.{Moments.{book_moment}, Shedding.{shed_record}}
 use Rattle.ptu_history.specs.Step.{answer_records, delay_answer, verdict_records}
-use Rattle.ptu_history.specs.Turns.{due_grants, sent_record}
+use Rattle.ptu_history.specs.{Turns.{due_grants, sent_record}, Verdict.{Config, verdict}}
 use Rattle.ptu_history.specs.Verdict as verdicts
-use Rattle.ptu_history.specs.Verdict.{Config, verdict}
 use Rattle.ptu_history.proofs.Counts.{counts-asked, counts-empty, counts-ended, counts-granted, counts-nothing, counts-sent, counts-shed, counts-short}
 use Rattle.ptu_messages.specs.declared.tlv.Ask.{Ask}
 use Rattle.ptu_shard.specs.Table.{StandsFor as TableStandsFor}

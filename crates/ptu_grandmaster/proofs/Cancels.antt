@@ -2,8 +2,7 @@
 use Rattle.std.proofs.Common.{◌≡◌, ◌∙◌, ℕ, ◌+◌, ◌%◌, List, [], ◌∷◌, map, refl, ap, ap₂, arith}
 use Rattle.std.proofs.lemmas.Simd.{map-map}
 use Rattle.ptu_units.specs.declared.{client.Client.{Client}, kind.Kind.{Kind}}
-use Rattle.ptu_history.specs.{Counts.{counts}, History.{Record}}
-use Rattle.ptu_history.specs.Shedding.{shed_grants}
+use Rattle.ptu_history.specs.{Counts.{counts}, History.{Record}, Shedding.{shed_grants}}
 use Rattle.ptu_profile.specs.declared.grandmaster.GmConfig.{GmConfig}
 use Rattle.ptu_admit.specs.{declared.shed_list.Shed.{Shed}, Shed.{shed_of}}
 use Rattle.ptu_gm_messages.specs.Replies.{cancel_to, cancels_to, lease_of}

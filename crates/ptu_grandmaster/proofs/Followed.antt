@@ -7,11 +7,10 @@ use Rattle.std.proofs.lemmas.List.Elements.{All-append, All-cons, All-nil}
 use Rattle.ptu_units.specs.declared.kind.{Kind.{Kind}, Kind.TheVariants.{DelayResp}}
 use Rattle.ptu_units.specs.{declared.client.Client.{Client}, Client.{table_of}, Kind.{kind_of}}
 use Rattle.ptu_history.specs.Core.{core_history, core_step, history_after, table_step_moment}
-use Rattle.ptu_history.specs.Counts.{counts}
+use Rattle.ptu_history.specs.{Counts.{counts}, Shedding.{shed_grants}, Core.{book_step_moment}}
 use Rattle.ptu_history.specs.Events as events
 use Rattle.ptu_history.specs.{Events.{Event}, History.{Record, is_sent}, Lawful.{lawful}}
 use Rattle.ptu_history.specs.{Live.{live}, Step.{delay_answer, verdict_records}, Turns.{due_grants}}
-use Rattle.ptu_history.specs.{Shedding.{shed_grants}, Core.{book_step_moment}}
 use Rattle.ptu_history.specs.Verdict as verdicts
 use Rattle.ptu_history.specs.Verdict.{Config, verdict}
 use Rattle.ptu_history.proofs.Counts.{counts-asked, counts-empty, counts-ended, counts-granted, counts-nothing, counts-sent, counts-shed, counts-short}
@@ -23,11 +22,10 @@ use Rattle.ptu_shard.specs.declared.answered.Answered.TheVariants as answers
 use Rattle.ptu_profile.specs.declared.grandmaster.GmConfig.{GmConfig}
 use Rattle.ptu_shard.specs.Answered.{failed_by, met_by, sent_by}
 use Rattle.ptu_units.specs.Limits.{IsCapacity}
-use Rattle.ptu_gm_messages.specs.declared.item.Item.{Item}
+use Rattle.ptu_gm_messages.specs.{declared.item.Item.{Item}, Items.{heard_in}}
 use Rattle.ptu_gm_messages.specs.declared.item.Item.TheVariants as items
 use Rattle.ptu_gm_messages.specs.declared.heard.Heard.TheVariants as heard
 use Rattle.ptu_gm_messages.specs.Deciding.{client_of, event_of, events_heard, events_of_items, item_moment, item_records, opened_with, asked_by}
-use Rattle.ptu_gm_messages.specs.Items.{heard_in}
 use Rattle.ptu_gm_messages.proofs.Placing.{history_after-items}
 use Rattle.ptu_grandmaster.specs.declared.driving.GmEvent.{GmEvent}
 use Rattle.ptu_grandmaster.specs.declared.driving.GmEvent.TheVariants.{Take, Turn, Class, Capacity}

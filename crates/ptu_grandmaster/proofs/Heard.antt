@@ -1,10 +1,9 @@
 -- What the events of a datagram make of a history.
 use Rattle.std.proofs.Common.{◌≡◌, ℕ, ◌++◌, List, [], ◌∷◌, Bool, true, false, Result, Ok, Err, refl}
 use Rattle.std.specs.{Prelude.{◌==◌, if◌then◌else◌}, Result.{OnErr}}
-use Rattle.ptu_messages.specs.declared.header.Header.{Header}
-use Rattle.ptu_messages.specs.declared.message.Body.{Body}
+use Rattle.ptu_messages.specs.{declared.header.Header.{Header}, declared.message.Body.{Body}}
 use Rattle.ptu_messages.specs.declared.message.Body.TheVariants as body
-use Rattle.ptu_messages.specs.declared.message.Message.{Message}
+use Rattle.ptu_messages.specs.{declared.message.Message.{Message}, Message.{HasTlvs}}
 use Rattle.ptu_messages.specs.declared.fault.MessageFault.{MessageFault}
 use Rattle.ptu_messages.specs.{MessageFault.{IsSignaling}, Reading.{message_in}}
 use Rattle.ptu_history.specs.{Core.{core_step, history_after}, Events.{Event}, History.{Record}}
@@ -15,7 +14,6 @@ use Rattle.ptu_gm_messages.specs.declared.reason.GmReason.TheVariants as reasons
 use Rattle.ptu_gm_messages.specs.declared.heard.Heard.{Heard}
 use Rattle.ptu_gm_messages.specs.declared.heard.Heard.TheVariants as heard
 use Rattle.ptu_gm_messages.specs.Items.{heard_by, heard_in, of_message}
-use Rattle.ptu_messages.specs.Message.{HasTlvs}
 use Rattle.ptu_gm_messages.proofs.Hearing.{IsAsked, signaling_alone}
 
 pub history_after-none : (opened : Config) (history : List Record) → history_after opened history [] ≡ history

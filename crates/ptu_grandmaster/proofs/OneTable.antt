@@ -3,11 +3,10 @@ use Rattle.std.proofs.Common.{◌≡◌, ℕ, ◌+◌, ◌++◌, List, [], ◌�
 use Rattle.std.specs.{Prelude.{IfSome, map}, Option.{OnSome}, List.Sorted.{IsPermutation}}
 use Rattle.ptu_units.specs.declared.kind.Kind.{Kind}
 use Rattle.ptu_units.specs.{declared.client.Client.{Client}, Client.{table_of}}
-use Rattle.ptu_history.specs.Core.{core_step, table_step_moment}
+use Rattle.ptu_history.specs.{Core.{core_step, table_step_moment}, Verdict.{Config, verdict}}
 use Rattle.ptu_history.specs.Events as events
 use Rattle.ptu_history.specs.{History.{Record}, Live.{live}, Moments.{book_moment}}
 use Rattle.ptu_history.specs.{Step.{delay_answer, step}, Turns.{due_grants, message_of}}
-use Rattle.ptu_history.specs.Verdict.{Config, verdict}
 use Rattle.ptu_messages.specs.declared.tlv.Ask.{Ask}
 use Rattle.ptu_profile.specs.declared.grandmaster.GmConfig.{GmConfig}
 use Rattle.ptu_shard.specs.declared.{answered.Answered.{Answered}, lease.Row.{Row}}

@@ -2,12 +2,10 @@
 use Rattle.std.proofs.Common.{◌≡◌, ℕ, ◌+◌, ◌≤◌, ◌++◌, List, [], ◌∷◌, length, take, map, refl, sym, ap, subst, ◌∙◌, arith, length-take}
 use Rattle.std.proofs.lemmas.List.{map-append}
 use Rattle.ptu_units.specs.declared.client.Client.{Client}
-use Rattle.ptu_history.specs.History.{Record}
-use Rattle.ptu_history.specs.Core.{history_after}
+use Rattle.ptu_history.specs.{History.{Record}, Core.{history_after}, Verdict.{Config}}
 use Rattle.ptu_gm_messages.specs.declared.item.Item.{Item}
 use Rattle.ptu_gm_messages.specs.Deciding.{decision_of, decisions_of, events_of_items, item_records, opened_with, placed}
 use Rattle.ptu_gm_messages.proofs.Placing.{decisions_of-push, history_after-items}
-use Rattle.ptu_history.specs.Verdict.{Config}
 use Rattle.ptu_grandmaster.specs.declared.outcome.Outcome.{Outcome}
 use Rattle.ptu_grandmaster.specs.Deciding.{AllCome, Comes, Lowers, spare_of}
 use Rattle.ptu_grandmaster.specs.Gm.{HasKeptPorts, KeptGm, StandsFor}

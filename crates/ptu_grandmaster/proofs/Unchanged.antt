@@ -3,8 +3,7 @@ use Rattle.std.proofs.Common.{ℕ, ◌++◌, List, ◌∷◌}
 use Rattle.std.specs.List.Sorted.{IsPermutation}
 use Rattle.ptu_history.specs.{History.{Record}, Moments.{book_moment}}
 use Rattle.ptu_shard.specs.{Table.{Kept, StandsAt}}
-use Rattle.ptu_admit.specs.Book.{KeptBook}
-use Rattle.ptu_admit.specs.Lent.{Lent, StandFor, lent_as, rates_elsewhere}
+use Rattle.ptu_admit.specs.{Book.{KeptBook}, Lent.{Lent, StandFor, lent_as, rates_elsewhere}}
 use Rattle.ptu_admit.proofs.{Sums.{share_of-permuted}}
 use Rattle.ptu_grandmaster.proofs.OneTable.{lent_back, lent_first}
 

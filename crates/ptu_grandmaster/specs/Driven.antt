@@ -1,8 +1,7 @@
 -- The events that a grandmaster is driven by, and their history.
 use Rattle.std.specs.Prelude.{◌≡◌, ◌+◌, ◌^◌, ◌<◌, ℕ, List, [], ◌∷◌, flat_map}
-use Rattle.ptu_history.specs.Core.{core_history}
+use Rattle.ptu_history.specs.{Core.{core_history}, Events.{Event}, History.{Record}}
 use Rattle.ptu_history.specs.Events as events
-use Rattle.ptu_history.specs.{Events.{Event}, History.{Record}}
 use Rattle.ptu_profile.specs.declared.grandmaster.GmConfig.{GmConfig}
 use Rattle.ptu_units.specs.Limits.{IsCapacity}
 use Rattle.ptu_gm_messages.specs.Deciding.{events_of_datagram, opened_with}

@@ -1,9 +1,8 @@
 -- What an item comes to, as it is answered.
 use Rattle.std.specs.Prelude.{ℕ, List, map, Option, Some, None, option_map}
 use Rattle.ptu_messages.specs.declared.tlv.Tlv.{Tlv}
-use Rattle.ptu_admit.specs.declared.verdict.Verdict.{Verdict as Given}
+use Rattle.ptu_admit.specs.{declared.verdict.Verdict.{Verdict as Given}, Verdict.{verdict_of}}
 use Rattle.ptu_admit.specs.declared.verdict.Verdict.TheVariants as given
-use Rattle.ptu_admit.specs.Verdict.{verdict_of}
 use Rattle.ptu_gm_messages.specs.declared.item.Item.{Item}
 use Rattle.ptu_gm_messages.specs.declared.item.Item.TheVariants as items
 use Rattle.ptu_gm_messages.specs.Deciding.{Decision, Ended, Judged, answer_to}

@@ -1,14 +1,12 @@
 -- How a grandmaster stands, by its history.
 use Rattle.std.specs.Prelude.{◌≡◌, ℕ, ◌+◌, List, count_by}
-use Rattle.ptu_units.specs.{declared.kind.Kind.{Kind}, Client.{same_kind}}
+use Rattle.ptu_units.specs.{declared.kind.Kind.{Kind}, Client.{same_kind}, Counts.{counted}}
 use Rattle.ptu_units.specs.declared.kind.Kind.TheVariants.{Announce, Sync, DelayResp}
-use Rattle.ptu_units.specs.Counts.{counted}
 use Rattle.ptu_history.specs.{Core.{book_step_moment}, Counts.{counts}}
 use Rattle.ptu_history.specs.{History.{Record, capacity_in_force}, Live.{Grant, live_grants}, Verdict.{rate_sum}}
 use Rattle.ptu_shard.specs.Row.{IsDistinctByLease, share_of}
 use Rattle.ptu_admit.specs.{declared.live.Live.{Live}, LiveRows.{rows_of_kind}, Rows.{live_rows}}
-use Rattle.ptu_grandmaster.specs.declared.status.GmStatus.{GmStatus}
-use Rattle.ptu_grandmaster.specs.Gm.{KeptGm}
+use Rattle.ptu_grandmaster.specs.{declared.status.GmStatus.{GmStatus}, Gm.{KeptGm}}
 
 -- how many grants of the kind are live at the moment
 abbrev pub live_of_kind : List Record → ℕ → Kind → ℕ

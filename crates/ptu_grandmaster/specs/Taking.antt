@@ -1,21 +1,18 @@
 -- What a grandmaster does with a datagram.
 use Rattle.std.specs.Prelude.{◌≡◌, ◌↔◌, ℕ, List, [], ◌∷◌, map, Result, Ok, Err}
 use Rattle.ptu_outside.specs.{Departure.{Departure}, declared.port.Port.{Ghosts as Ports}}
-use Rattle.ptu_outside.specs.HandsOver.{HandsOver}
+use Rattle.ptu_outside.specs.{HandsOver.{HandsOver}, declared.reply.Reply.{Reply}}
 use Rattle.ptu_messages.specs.declared.header.Header.{Header}
 use Rattle.ptu_units.specs.{declared.client.Client.{Client}, Client.{table_of}}
 use Rattle.ptu_history.specs.{Core.{table_step_moment}, History.{Record}, Step.{delay_answer}}
 use Rattle.ptu_history.specs.Verdict.{Config}
-use Rattle.ptu_shard.specs.declared.answered.Answered.{Answered}
+use Rattle.ptu_shard.specs.{declared.answered.Answered.{Answered}, Messages.{response_of}}
 use Rattle.ptu_profile.specs.declared.grandmaster.GmConfig.{GmConfig}
 use Rattle.ptu_shard.specs.Answered.{failed_by, met_by, moment_of_answer, responses, sent_by}
-use Rattle.ptu_shard.specs.Messages.{response_of}
-use Rattle.ptu_gm_messages.specs.declared.heard.Heard.{Heard}
+use Rattle.ptu_gm_messages.specs.{declared.heard.Heard.{Heard}, declared.reason.GmReason.{GmReason}}
 use Rattle.ptu_gm_messages.specs.declared.heard.Heard.TheVariants as heard
-use Rattle.ptu_gm_messages.specs.declared.reason.GmReason.{GmReason}
 use Rattle.ptu_gm_messages.specs.Deciding.{client_of, decisions_of}
 use Rattle.ptu_grandmaster.specs.declared.outcome.Outcome.{Outcome}
-use Rattle.ptu_outside.specs.declared.reply.Reply.{Reply}
 use Rattle.ptu_outside.specs.declared.reply.Reply.TheVariants.{Sent, Failed, Nothing}
 use Rattle.ptu_grandmaster.specs.declared.outcome.Taken.{Taken}
 use Rattle.ptu_grandmaster.specs.declared.outcome.Taken.TheVariants.{Ignored, Delay, Asked}

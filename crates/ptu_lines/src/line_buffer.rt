@@ -2,11 +2,11 @@
 //! ahead.
 
 ghost use Rattle.std.specs.Prelude.{◌≡◌, ◌<◌, ◌≤◌, ◌+◌, ◌-◌, ◌++◌, ◌==◌, ℕ, [], List, false, true, length, take, drop, IfOk, OnOk, OnErr, IfSome, IfNone, IsTrue, position, slice_range};
-ghost use Rattle.std.specs.Io.KnownBytes.{IsAtEnd, prepend_known};
-ghost use Rattle.ptu_outside.specs.{Ends.{CountsEnd}, Faults.{HasRisen}};
+ghost use Rattle.std.specs.Io.KnownBytes.{prepend_known};
+ghost use Rattle.ptu_outside.specs.Faults.{HasRisen};
 ghost use Rattle.ptu_lines.specs.{Script.{is_end}, Reading.{AgreesOnEnd, IsReadToEnd}};
 
-use ptu_outside::{Failed, Source};
+use ptu_outside::{Failed, Source, read_behind};
 use ptu_units::OutOfMemory;
 use std::alloc::Global;
 use std::marker::Model;
@@ -53,32 +53,6 @@ fn move_to_front(octets: &mut Vec<u8>, start: usize, end: usize)
     ensures length { length octets.new.items ≡ length octets.old.items }
 {
     octets.copy_within(start..end, 0);
-}
-
-// Reads once, at most `limit` octets, from the place `at` on.
-fn read_behind<S: Source>(
-    source: &mut S,
-    octets: &mut [u8],
-    at: usize,
-    limit: usize,
-) -> Result<usize, Failed>
-    requires room { at < length octets.old }
-    requires some { 0 < limit }
-    ensures within { IfOk result (λ n. n ≤ limit) }
-    ensures fits { IfOk result (λ n. at + n ≤ length octets.new) }
-    ensures front { take at octets.new ≡ take at octets.old }
-    ensures read { IfOk result (λ n. S.left source.old
-        ≡ prepend_known (slice_range octets.new at (at + n)) (S.left source.new)) }
-    ensures end { IfOk result (λ n. n ≡ 0 → IsAtEnd (S.left source.new)) }
-    ensures ends { IfOk result (λ n. CountsEnd (n == 0) (S.ends source.old) (S.ends source.new)) }
-    ensures left { OnErr result (S.left source.new ≡ S.left source.old) }
-    ensures no_end { OnErr result (CountsEnd false (S.ends source.old) (S.ends source.new)) }
-    ensures risen { OnErr result (HasRisen (S.faults source.old) (S.faults source.new)) }
-    ensures still { OnOk result (S.faults source.new ≡ S.faults source.old) }
-    ensures no_fall { S.faults source.old ≤ S.faults source.new }
-{
-    let room = limit.min(octets.len() - at);
-    source.read(&mut octets[at..at + room])
 }
 
 impl LineBuffer {

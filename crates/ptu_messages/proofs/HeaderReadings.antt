@@ -1,11 +1,12 @@
 -- Every list of octets spells a header, or has a fault.
-use Rattle.std.proofs.Common.{◌≡◌, ℕ, ◌≤◌, ◌⊎◌, inl, inr, true, false, cond, ltb, ◌||◌, List, length, Result, Ok, Err, refl, sym, ap, subst, ◌∙◌, arith, ◌<◌}
+use Rattle.std.proofs.Common.{◌≡◌, ℕ, ◌≤◌, ◌⊎◌, inl, inr, true, false, cond, ltb, ◌||◌, List, length, Result, Ok, Err, refl, sym, ap, ◌∙◌, arith, ◌<◌}
 use Rattle.std.proofs.lemmas.Bool.{cases_lt, cases_eq, le-ltb, lt-ltb, eq-eqb, ne_eqb}
 use Rattle.ptu_messages.specs.declared.{header.Header.{Header}, header_fault.HeaderFault.{HeaderFault}}
 use Rattle.ptu_messages.specs.declared.header_fault.HeaderFault.TheVariants.{Short, Version, Sdo, Length}
 use Rattle.ptu_units.specs.Number.{number_at, high_nibble_at, low_nibble_at}
 use Rattle.ptu_messages.specs.{Header.{SpellsHeader, header_at}, HeaderReading.{by_length, header_in}}
-use Rattle.ptu_messages.specs.HeaderFault.{HasHeaderFault}
+use Rattle.ptu_messages.specs.{HeaderFault.{HasHeaderFault}, Exact.{IsOneReading, IsSpelling}}
+use Rattle.ptu_messages.proofs.Exact as exact
 
 abbrev IsHeader : List ℕ → Type 0
 IsHeader octets = (header : Header) × (n : ℕ) × SpellsHeader octets header n
@@ -91,22 +92,11 @@ header_in-faulty octets (Length said have) h =
 
 -- ---- and nothing else
 
-pub found_is : (octets : List ℕ) (header : Header) (n : ℕ) → header_in octets ≡ Ok (header, n) → SpellsHeader octets header n
-found_is octets header n e =
-    elim (one_or_other octets) [
-      | inl h ↦
-          let same : found h.0 h.1 ≡ found header n = sym (header_in-spelled octets h.0 h.1 h.2) ∙ e in
-          let parts : (h.0, h.1) ≡ (header, n) = cc in
-          subst (λ (x : Header × ℕ). SpellsHeader octets x.0 x.1) parts h.2
-      | inr f ↦ let other = header_in-faulty octets f.0 f.1 in absurd cc
-    ]
+pub is_spelling : IsSpelling header_in SpellsHeader HasHeaderFault
+is_spelling = exact.is_spelling Header HeaderFault header_in SpellsHeader HasHeaderFault one_or_other header_in-spelled header_in-faulty
 
-pub refused_is : (octets : List ℕ) (fault : HeaderFault) → header_in octets ≡ Err fault → HasHeaderFault octets fault
-refused_is octets fault e =
-    elim (one_or_other octets) [
-      | inl h ↦ let other = header_in-spelled octets h.0 h.1 h.2 in absurd cc
-      | inr f ↦
-          let same : refused f.0 ≡ refused fault = sym (header_in-faulty octets f.0 f.1) ∙ e in
-          let it : f.0 ≡ fault = cc in
-          subst (HasHeaderFault octets) it f.1
-    ]
+pub one_reading : IsOneReading SpellsHeader HasHeaderFault
+one_reading = exact.one_reading Header HeaderFault header_in SpellsHeader HasHeaderFault one_or_other header_in-spelled header_in-faulty
+
+pub found_is : (octets : List ℕ) (header : Header) (n : ℕ) → header_in octets ≡ Ok (header, n) → SpellsHeader octets header n
+found_is octets header n = (is_spelling.found octets header n).0

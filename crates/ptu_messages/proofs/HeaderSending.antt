@@ -1,7 +1,6 @@
 -- What is sent spells the header, whatever follows it.
-use Rattle.std.proofs.Common.{◌≡◌, ℕ, ◌^◌, ◌<◌, ◌≤◌, refl, sym, arith}
+use Rattle.std.proofs.{Common.{◌≡◌, ℕ, ◌^◌, ◌<◌, ◌≤◌, refl, sym, arith}, Math.Nat.{mod-eq_of_lt}}
 use Rattle.std.specs.Prelude.{◌%◌, List, ◌++◌}
-use Rattle.std.proofs.Math.Nat.{mod-eq_of_lt}
 use Rattle.ptu_units.proofs.{BigEndian.{number_at-octets_of}, Signs.{signed_at-octets_64}}
 use Rattle.ptu_messages.specs.declared.header.{Header.{Header}, PortIdentity.{PortIdentity}}
 use Rattle.ptu_messages.specs.Header.{AlwaysSpellsHeader, HasIdentityWidths, HasWidths, header_at, identity_at}

@@ -1,3 +1,4 @@
+pub mod Exact
 pub mod Cuts
 pub mod Tlvs
 pub mod Readings

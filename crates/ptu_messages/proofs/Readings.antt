@@ -4,9 +4,8 @@ use Rattle.std.specs.Prelude.{slice_range}
 use Rattle.std.proofs.lemmas.Bool.{cases_lt, cases_eq, le-ltb, lt-ltb}
 use Rattle.ptu_units.specs.declared.stamp.Stamp.{Stamp}
 use Rattle.ptu_messages.specs.declared.header.{Header.{Header}, PortIdentity.{PortIdentity}}
-use Rattle.ptu_messages.specs.Header.{SpellsHeader, identity_at}
+use Rattle.ptu_messages.specs.{Header.{SpellsHeader, identity_at}, declared.tlv.Tlv.{Tlv}}
 use Rattle.ptu_messages.proofs.HeaderReadings as headers
-use Rattle.ptu_messages.specs.declared.tlv.Tlv.{Tlv}
 use Rattle.ptu_messages.specs.declared.message.{AnnounceBody.{AnnounceBody}, Body.{Body}}
 use Rattle.ptu_messages.specs.declared.message.Body.TheVariants.{Sync, DelayReq, FollowUp, DelayResp, Announce, Signaling, Ignored}
 use Rattle.ptu_messages.specs.declared.message.Message.{Message}

@@ -1,21 +1,17 @@
 -- What is sent spells the message, whatever follows it.
 use Rattle.std.proofs.Common.{◌≡◌, ℕ, ◌+◌, ◌-◌, ◌≤◌, List, [], ◌∷◌, ◌++◌, length, refl, sym, ap, subst, ◌∙◌, arith, append_assoc, length-append}
-use Rattle.std.specs.Prelude.{◌*◌, All, slice_range}
-use Rattle.std.proofs.lemmas.List.Elements.{All-head, All-tail}
-use Rattle.std.specs.List.{flat_map}
-use Rattle.std.proofs.lemmas.List.{append-nil, take_at}
+use Rattle.std.specs.{Prelude.{◌*◌, All, slice_range}, List.{flat_map}}
+use Rattle.std.proofs.{lemmas.List.Elements.{All-head, All-tail}, lemmas.List.{append-nil, take_at}}
 use Rattle.ptu_units.specs.declared.stamp.Stamp.{Stamp}
 use Rattle.ptu_units.proofs.{BigEndian.{number_at-octets_of}, Signs.{signed_at-octets_16}}
 use Rattle.ptu_messages.specs.declared.header.{Header.{Header}, PortIdentity.{PortIdentity}}
 use Rattle.ptu_messages.specs.Header.{AlwaysSpellsHeader, HasIdentityWidths, SpellsHeader, identity_at}
 use Rattle.ptu_messages.specs.Header as headers
-use Rattle.ptu_messages.specs.HeaderSent.{sent_header, sent_identity}
-use Rattle.ptu_messages.proofs.HeaderSending.{sent_header_spells}
-use Rattle.ptu_messages.specs.declared.tlv.Tlv.{Tlv}
+use Rattle.ptu_messages.specs.{HeaderSent.{sent_header, sent_identity}, declared.tlv.Tlv.{Tlv}}
+use Rattle.ptu_messages.proofs.{HeaderSending.{sent_header_spells}, TlvsSending.{sent_tlv_spells}}
 use Rattle.ptu_messages.specs.declared.tlv.Tlv.TheVariants.{Request, Grant, Cancel, Ack, Other}
 use Rattle.ptu_messages.specs.Tlv.{HasWidths, SpellsTlv, AlwaysBeginsWithTlv}
 use Rattle.ptu_messages.specs.TlvsSent.{IsSendable, sent_tlv}
-use Rattle.ptu_messages.proofs.TlvsSending.{sent_tlv_spells}
 use Rattle.ptu_messages.specs.declared.message.{AnnounceBody.{AnnounceBody}, Body.{Body}}
 use Rattle.ptu_messages.specs.declared.message.Body.TheVariants.{Sync, DelayReq, FollowUp, DelayResp, Announce, Signaling, Ignored}
 use Rattle.ptu_messages.specs.{declared.message.Message.{Message}, Tlvs.{AreSpelled}}

@@ -1,10 +1,9 @@
 -- Reading TLVs one after the other finds the list that is spelled, and the place where it ends early.
 use Rattle.std.proofs.Common.{◌≡◌, ℕ, zero, suc, ◌+◌, ◌-◌, ◌<◌, ◌≤◌, ◌⊎◌, inl, inr, List, [], ◌∷◌, ◌++◌, length, take, drop, Result, Ok, Err, refl, sym, ap, subst, ◌∙◌, arith, append_assoc, length-append}
 use Rattle.std.proofs.lemmas.List.{append-nil, drop_at, take-append-drop}
-use Rattle.ptu_messages.specs.declared.tlv.Tlv.{Tlv}
+use Rattle.ptu_messages.specs.{declared.tlv.Tlv.{Tlv}, TlvFault.{HasTlvFault}, TlvsReading.{tlv_in}}
 use Rattle.ptu_messages.specs.declared.tlv.Tlv.TheVariants.{Request, Grant, Cancel, Ack, Other}
 use Rattle.ptu_messages.specs.{declared.tlvs_fault.TlvFault.{TlvFault}, Tlv.{SpellsTlv, BeginsWithTlv}}
-use Rattle.ptu_messages.specs.{TlvFault.{HasTlvFault}, TlvsReading.{tlv_in}}
 use Rattle.ptu_messages.proofs.TlvsReadings.{one_or_other, tlv_in-spelled, tlv_in-faulty}
 use Rattle.ptu_messages.proofs.TlvsSending.{begins}
 use Rattle.ptu_messages.specs.declared.fault.MessageFault.{MessageFault}

@@ -10,6 +10,8 @@ use Rattle.ptu_messages.specs.declared.tlvs_fault.TlvFault.{TlvFault}
 use Rattle.ptu_messages.specs.declared.tlvs_fault.TlvFault.TheVariants.{Short, Overrun, Length}
 use Rattle.ptu_messages.specs.Tlv.{HasHead, IsFirst, SpellsTlv, BeginsWithTlv, ask_at, renewal_at}
 use Rattle.ptu_messages.specs.{TlvFault.{HasOtherLength, HasTlvFault}, TlvsReading.{whole_in, tlv_in}}
+use Rattle.ptu_messages.specs.Exact.{IsOneReading, IsSpelling}
+use Rattle.ptu_messages.proofs.Exact as exact
 
 -- ---- the head of a front is the head of the whole
 
@@ -25,19 +27,18 @@ head_is_taken size octets le = record {
 
 -- ---- the tlvType and the lengthField of a TLV
 
+abbrev fields_of : Tlv → ℕ × ℕ
+fields_of (Request ask) = (4, 6)
+fields_of (Grant ask invited) = (5, 8)
+fields_of (Cancel code) = (6, 2)
+fields_of (Ack code) = (7, 2)
+fields_of (Other kind n) = (kind, n)
+
 abbrev type_of : Tlv → ℕ
-type_of (Request ask) = 4
-type_of (Grant ask invited) = 5
-type_of (Cancel code) = 6
-type_of (Ack code) = 7
-type_of (Other kind n) = kind
+type_of tlv = (fields_of tlv).0
 
 abbrev length_of : Tlv → ℕ
-length_of (Request ask) = 6
-length_of (Grant ask invited) = 8
-length_of (Cancel code) = 2
-length_of (Ack code) = 2
-length_of (Other kind n) = n
+length_of tlv = (fields_of tlv).1
 
 head_of : (octets : List ℕ) (tlv : Tlv) → SpellsTlv octets tlv → HasHead octets (type_of tlv) (length_of tlv)
 head_of octets (Request ask) h = h.0
@@ -188,39 +189,11 @@ one_or_other octets =
 
 -- ---- and nothing else
 
-pub found_is : (octets : List ℕ) (tlv : Tlv) (size : ℕ) → tlv_in octets ≡ Ok (tlv, size) → BeginsWithTlv octets tlv size
-found_is octets tlv size e =
-    elim (one_or_other octets) [
-      | inl h ↦
-          let same : found h.0 h.1 ≡ found tlv size = sym (tlv_in-spelled octets h.0 h.1 h.2) ∙ e in
-          let parts : (h.0, h.1) ≡ (tlv, size) = cc in
-          subst (λ (x : Tlv × ℕ). BeginsWithTlv octets x.0 x.1) parts h.2
-      | inr f ↦ let other = tlv_in-faulty octets f.0 f.1 in absurd cc
-    ]
+pub is_spelling : IsSpelling tlv_in BeginsWithTlv HasTlvFault
+is_spelling = exact.is_spelling Tlv TlvFault tlv_in BeginsWithTlv HasTlvFault one_or_other tlv_in-spelled tlv_in-faulty
 
-pub refused_is : (octets : List ℕ) (fault : TlvFault) → tlv_in octets ≡ Err fault → HasTlvFault octets fault
-refused_is octets fault e =
-    elim (one_or_other octets) [
-      | inl h ↦ let other = tlv_in-spelled octets h.0 h.1 h.2 in absurd cc
-      | inr f ↦
-          let same : refused f.0 ≡ refused fault = sym (tlv_in-faulty octets f.0 f.1) ∙ e in
-          let it : f.0 ≡ fault = cc in
-          subst (HasTlvFault octets) it f.1
-    ]
-
-pub never_both : (octets : List ℕ) (tlv : Tlv) (size : ℕ) (fault : TlvFault) → BeginsWithTlv octets tlv size → HasTlvFault octets fault → ⊥
-never_both octets tlv size fault h f =
-    let a = tlv_in-spelled octets tlv size h in
-    let b = tlv_in-faulty octets fault f in
-    absurd cc
-
-pub one_tlv : (octets : List ℕ) (v v' : Tlv) (size size' : ℕ) → BeginsWithTlv octets v size → BeginsWithTlv octets v' size' → (v ≡ v') × (size ≡ size')
-one_tlv octets v v' size size' h h' =
-    let a = tlv_in-spelled octets v size h in
-    let b = tlv_in-spelled octets v' size' h' in
-    let same : found v size ≡ found v' size' = sym a ∙ b in
-    let parts : (v, size) ≡ (v', size') = cc in
-    (ap (λ (x : Tlv × ℕ). x.0) parts, ap (λ (x : Tlv × ℕ). x.1) parts)
+pub one_reading : IsOneReading BeginsWithTlv HasTlvFault
+one_reading = exact.one_reading Tlv TlvFault tlv_in BeginsWithTlv HasTlvFault one_or_other tlv_in-spelled tlv_in-faulty
 
 -- ---- a fault of the first TLV is a fault of the octets
 

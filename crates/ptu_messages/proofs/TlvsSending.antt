@@ -3,10 +3,9 @@ use Rattle.std.proofs.Common.{ℕ, Bool, true, false, List, ◌++◌, length, re
 use Rattle.std.specs.{Prelude.{◌≡◌, ◌*◌, ◌/◌}, Int.{w8}}
 use Rattle.std.proofs.lemmas.{Int.{to_z-of_z}, List.{take_at, length-append}}
 use Rattle.ptu_units.proofs.BigEndian.{number_at-octets_of}
-use Rattle.ptu_messages.specs.declared.tlv.{Ask.{Ask}, Tlv.{Tlv}}
+use Rattle.ptu_messages.specs.{declared.tlv.{Ask.{Ask}, Tlv.{Tlv}}, TlvsSent.{IsSendable, sent_tlv}}
 use Rattle.ptu_messages.specs.declared.tlv.Tlv.TheVariants.{Request, Grant, Cancel, Ack, Other}
 use Rattle.ptu_messages.specs.Tlv.{HasAskWidths, HasWidths, ask_at, SpellsTlv, BeginsWithTlv, AlwaysBeginsWithTlv}
-use Rattle.ptu_messages.specs.TlvsSent.{IsSendable, sent_tlv}
 
 -- a spelling begins whatever it stands before
 pub begins : (front rest : List ℕ) (tlv : Tlv) → SpellsTlv front tlv → BeginsWithTlv (front ++ rest) tlv (length front)

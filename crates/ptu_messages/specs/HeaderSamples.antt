@@ -1,9 +1,8 @@
 -- Headers that were made out by hand, field by field, and what the definitions say of them.
 use Rattle.std.specs.Prelude.{◌≡◌, ℕ, List, [], ◌∷◌, ◌++◌, take, replicate, slice_set, pos, negsuc}
-use Rattle.ptu_messages.specs.declared.header.Header.{Header}
+use Rattle.ptu_messages.specs.{declared.header.Header.{Header}, HeaderSent.{sent_header}}
 use Rattle.ptu_messages.specs.declared.header_fault.HeaderFault.TheVariants.{Short, Version, Sdo, Length}
 use Rattle.ptu_messages.specs.{Header.{SpellsHeader}, HeaderFault.{HasHeaderFault}}
-use Rattle.ptu_messages.specs.HeaderSent.{sent_header}
 
 -- a Signaling message of a client's port 1, of 54 octets in domain 4
 abbrev pub ask_header : Header
@@ -11,9 +10,8 @@ ask_header = record { message_type = 12; domain = 4; flags = 0x0400; correction 
 
 abbrev pub ask_octets : List ℕ
 ask_octets =
-    0x0c ∷ 0x12 ∷ 0x00 ∷ 0x36 ∷ 0x04 ∷ 0x00 ∷ 0x04 ∷ 0x00 ∷
-    0x00 ∷ 0x00 ∷ 0x00 ∷ 0x00 ∷ 0x00 ∷ 0x00 ∷ 0x00 ∷ 0x00 ∷ 0x00 ∷ 0x00 ∷ 0x00 ∷ 0x00 ∷
-    0x0a ∷ 0x00 ∷ 0x00 ∷ 0x00 ∷ 0x00 ∷ 0x00 ∷ 0x00 ∷ 0x11 ∷ 0x00 ∷ 0x01 ∷ 0x00 ∷ 0x00 ∷ 0x05 ∷ 0x7f ∷ []
+    0x0c ∷ 0x12 ∷ 0x00 ∷ 0x36 ∷ 0x04 ∷ 0x00 ∷ 0x04 ∷ 0x00 ∷ replicate 12 0x00
+    ++ 0x0a ∷ 0x00 ∷ 0x00 ∷ 0x00 ∷ 0x00 ∷ 0x00 ∷ 0x00 ∷ 0x11 ∷ 0x00 ∷ 0x01 ∷ 0x00 ∷ 0x00 ∷ 0x05 ∷ 0x7f ∷ []
 
 -- a Delay_Resp of 54 octets, sequence 7, with a correctionField of -1.5 ns
 abbrev pub response_header : Header

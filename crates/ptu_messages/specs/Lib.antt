@@ -1,3 +1,4 @@
+pub mod Exact
 pub mod Message
 pub mod Tlvs
 pub mod MessageFault

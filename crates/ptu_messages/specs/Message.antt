@@ -1,8 +1,7 @@
 -- Messages, and the octets that spell them (IEEE 1588-2019 clauses 13.5 to 13.12).
 use Rattle.std.specs.Prelude.{◌≡◌, ◌≢◌, ℕ, ◌+◌, ◌^◌, ◌<◌, ◌≤◌, ◌==◌, ◌||◌, if◌then◌else◌, List, All, slice_index, slice_range}
 use Rattle.std.specs.{Int.{w16}, Int.RustNames.{FitsSigned}}
-use Rattle.ptu_units.specs.declared.stamp.Stamp.{Stamp}
-use Rattle.ptu_units.specs.Number.{number_at, signed_at}
+use Rattle.ptu_units.specs.{declared.stamp.Stamp.{Stamp}, Number.{number_at, signed_at}}
 use Rattle.ptu_messages.specs.Header.{SpellsHeader, HasIdentityWidths, identity_at}
 use Rattle.ptu_messages.specs.Tlv.{HasWidths}
 use Rattle.ptu_messages.specs.declared.message.{AnnounceBody.{AnnounceBody}, Body.{Body}}

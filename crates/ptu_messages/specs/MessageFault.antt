@@ -3,9 +3,8 @@ use Rattle.std.specs.Prelude.{◌≡◌, ℕ, ◌<◌, ◌≤◌, List, ◌++◌
 use Rattle.std.specs.Fmt.{decimal}
 use Rattle.ptu_messages.specs.{declared.header.Header.{Header}, Header.{SpellsHeader}}
 use Rattle.ptu_messages.specs.HeaderFault as headers
-use Rattle.ptu_messages.specs.declared.tlv.Tlv.{Tlv}
+use Rattle.ptu_messages.specs.{declared.tlv.Tlv.{Tlv}, declared.fault.MessageFault.{MessageFault}}
 use Rattle.ptu_messages.specs.TlvFault as tlvs
-use Rattle.ptu_messages.specs.declared.fault.MessageFault.{MessageFault}
 use Rattle.ptu_messages.specs.declared.fault.MessageFault.TheVariants as faults
 use Rattle.ptu_messages.specs.{Message.{least_length}, Tlvs.{AreSpelled}}
 

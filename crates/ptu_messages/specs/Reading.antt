@@ -3,8 +3,7 @@ use Rattle.std.specs.Prelude.{ℕ, zero, suc, ◌+◌, ◌==◌, if◌then◌els
 use Rattle.ptu_messages.specs.declared.{header.Header.{Header}, header_fault.HeaderFault.{HeaderFault}}
 use Rattle.ptu_messages.specs.{Header.{identity_at}, HeaderReading.{header_in}}
 use Rattle.ptu_messages.specs.declared.{tlv.Tlv.{Tlv}, tlvs_fault.TlvFault.{TlvFault}}
-use Rattle.ptu_messages.specs.TlvsReading.{tlv_in}
-use Rattle.ptu_messages.specs.declared.message.Body.{Body}
+use Rattle.ptu_messages.specs.{TlvsReading.{tlv_in}, declared.message.Body.{Body}}
 use Rattle.ptu_messages.specs.declared.message.Body.TheVariants.{Sync, DelayReq, FollowUp, DelayResp, Announce, Signaling, Ignored}
 use Rattle.ptu_messages.specs.declared.message.Message.{Message}
 use Rattle.ptu_messages.specs.declared.fault.MessageFault.{MessageFault}

@@ -6,10 +6,9 @@ use Rattle.ptu_messages.specs.declared.header_fault.HeaderFault.TheVariants as h
 use Rattle.ptu_messages.specs.declared.tlv.{Tlv.{Tlv}, Tlv.TheVariants.{Request, Other}}
 use Rattle.ptu_messages.specs.declared.tlvs_fault.TlvFault.TheVariants as tlvs
 use Rattle.ptu_messages.specs.declared.message.Body.TheVariants.{DelayReq, DelayResp, Announce, Signaling, Ignored}
-use Rattle.ptu_messages.specs.declared.message.Message.{Message}
+use Rattle.ptu_messages.specs.{declared.message.Message.{Message}, TlvsSamples.{announce_request}}
 use Rattle.ptu_messages.specs.declared.fault.MessageFault.TheVariants as faults
 use Rattle.ptu_messages.specs.{Reading.{message_in}, Sent.{sent_message}}
-use Rattle.ptu_messages.specs.TlvsSamples.{announce_request}
 
 -- port 1 of a client and of a grandmaster
 abbrev pub sample_client : PortIdentity

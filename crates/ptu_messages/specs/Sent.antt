@@ -1,8 +1,7 @@
 -- The octets of a message as they are sent.
 use Rattle.std.specs.{Prelude.{ℕ, ◌+◌, ◌^◌, ◌<◌, ⊤, List, [], ◌∷◌, ◌++◌, length}, List.{flat_map}}
 use Rattle.std.specs.Int.{w16}
-use Rattle.ptu_units.specs.declared.stamp.Stamp.{Stamp}
-use Rattle.ptu_units.specs.Number.{octets_of, signed_octets}
+use Rattle.ptu_units.specs.{declared.stamp.Stamp.{Stamp}, Number.{octets_of, signed_octets}}
 use Rattle.ptu_messages.specs.declared.header.{Header.{Header}, PortIdentity.{PortIdentity}}
 use Rattle.ptu_messages.specs.HeaderSent.{sent_header, sent_identity}
 use Rattle.ptu_messages.specs.{declared.tlv.Tlv.{Tlv}, TlvsSent.{sent_tlv}}

@@ -1,9 +1,8 @@
 -- Reading a TLV: the first one and its size, or the first fault.
 use Rattle.std.specs.Prelude.{ℕ, ◌+◌, ◌-◌, ◌==◌, if◌then◌else◌, List, length, take, nat_lt, Result, Ok, Err}
 use Rattle.ptu_units.specs.Number.{number_at, high_nibble_at}
-use Rattle.ptu_messages.specs.declared.tlv.Tlv.{Tlv}
+use Rattle.ptu_messages.specs.{declared.tlv.Tlv.{Tlv}, declared.tlvs_fault.TlvFault.{TlvFault}}
 use Rattle.ptu_messages.specs.declared.tlv.Tlv.TheVariants.{Request, Grant, Cancel, Ack, Other}
-use Rattle.ptu_messages.specs.declared.tlvs_fault.TlvFault.{TlvFault}
 use Rattle.ptu_messages.specs.declared.tlvs_fault.TlvFault.TheVariants.{Short, Overrun, Length}
 use Rattle.ptu_messages.specs.Tlv.{ask_at, renewal_at}
 

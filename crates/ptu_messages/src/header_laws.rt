@@ -1,25 +1,16 @@
 //! Laws of the definitions that the contracts of this crate cite: each is the contract of a
 //! function that does nothing.
 
-ghost use Rattle.std.specs.Prelude.{◌≡◌, ◌⊎◌, ◌↔◌, ◌<◌, ◌≤◌, ◌^◌, ℕ, List, All, Ok, Err};
+ghost use Rattle.std.specs.Prelude.{◌<◌, ◌≤◌, ◌^◌, ℕ, List, All};
+ghost use Rattle.ptu_messages.specs.{Exact.{IsOneReading, IsSpelling}, HeaderSent.{sent_header}};
 ghost use Rattle.ptu_messages.specs.Header.{HasWidths, SpellsHeader, AlwaysSpellsHeader};
 ghost use Rattle.ptu_messages.specs.{HeaderFault.{HasHeaderFault}, HeaderReading.{header_in}};
-ghost use Rattle.ptu_messages.specs.HeaderSent.{sent_header};
 ghost use Rattle.ptu_messages.specs.HeaderSamples.{HeadersAreSpelled, HeaderFaultsAreFound, HeadersAreSent};
 ghost use Rattle.ptu_messages.specs.declared.header.Header.{Header};
-ghost use Rattle.ptu_messages.specs.declared.header_fault.HeaderFault.{HeaderFault};
 
 /// Every list of octets spells one header with one messageLength, or has one fault, and never both.
 pub fn one_header_reading()
-    ensures one_or_other { (octets : List ℕ) →
-        ((h : Header) × (n : ℕ) × SpellsHeader octets h n)
-        ⊎ ((f : HeaderFault) × HasHeaderFault octets f) }
-    ensures never_both { (octets : List ℕ) (h : Header) (n : ℕ) (f : HeaderFault) →
-        SpellsHeader octets h n → HasHeaderFault octets f → ⊥ }
-    ensures one_header { (octets : List ℕ) (h h' : Header) (n n' : ℕ) →
-        SpellsHeader octets h n → SpellsHeader octets h' n' → (h ≡ h') × (n ≡ n') }
-    ensures one_fault { (octets : List ℕ) (f f' : HeaderFault) → HasHeaderFault octets f →
-        HasHeaderFault octets f' → f ≡ f' }
+    ensures { IsOneReading SpellsHeader HasHeaderFault }
 {}
 
 /// Octets spell only headers whose fields fit them, and each such header is read where it was sent.
@@ -32,10 +23,7 @@ pub fn sent_header_is_read()
 
 /// The reading of octets and the relations on them say the same.
 pub fn header_reading_is_spelling()
-    ensures found { (octets : List ℕ) (h : Header) (n : ℕ) → (header_in octets ≡ Ok (h, n))
-        ↔ SpellsHeader octets h n }
-    ensures refused { (octets : List ℕ) (f : HeaderFault) → (header_in octets ≡ Err f)
-        ↔ HasHeaderFault octets f }
+    ensures { IsSpelling header_in SpellsHeader HasHeaderFault }
 {}
 
 /// The definitions at headers that were made out by hand.

@@ -14,6 +14,7 @@ mod laws;
 mod message;
 mod putting;
 mod reading;
+pub mod samples;
 mod signaling;
 mod stamps;
 mod tlv;

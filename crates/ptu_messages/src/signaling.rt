@@ -2,8 +2,7 @@
 
 ghost use Rattle.std.specs.Prelude.{◌≡◌, ◌+◌, ◌*◌, ◌≤◌, ◌++◌, length, map, take, drop, All};
 ghost use Rattle.std.specs.List.{flat_map};
-ghost use Rattle.ptu_messages.specs.TlvsSent.{IsSendable, sent_tlv};
-ghost use Rattle.ptu_messages.specs.Tlvs.{AreSpelled};
+ghost use Rattle.ptu_messages.specs.{TlvsSent.{IsSendable, sent_tlv}, Tlvs.{AreSpelled}};
 ghost use Rattle.ptu_messages.specs.Sent.{sent_message, signaling, AlwaysSpells};
 
 use crate::putting::put;

@@ -1,24 +1,16 @@
 //! Laws of the definitions that the contracts of this crate cite: each is the contract of a
 //! function that does nothing.
 
-ghost use Rattle.std.specs.Prelude.{◌≡◌, ◌⊎◌, ◌↔◌, ◌<◌, ℕ, List, All, Ok, Err};
+ghost use Rattle.std.specs.Prelude.{◌<◌, ℕ, List, All};
+ghost use Rattle.ptu_messages.specs.{Exact.{IsOneReading, IsSpelling}, declared.tlv.Tlv.{Tlv}};
 ghost use Rattle.ptu_messages.specs.Tlv.{HasWidths, SpellsTlv, BeginsWithTlv, AlwaysBeginsWithTlv};
 ghost use Rattle.ptu_messages.specs.{TlvFault.{HasTlvFault}, TlvsReading.{tlv_in}};
 ghost use Rattle.ptu_messages.specs.TlvsSent.{IsSendable, sent_tlv};
 ghost use Rattle.ptu_messages.specs.TlvsSamples.{TlvsAreSpelled, TlvFaultsAreFound, TlvsAreSent};
-ghost use Rattle.ptu_messages.specs.{declared.tlv.Tlv.{Tlv}, declared.tlvs_fault.TlvFault.{TlvFault}};
 
 /// Every list of octets begins with one TLV of one size, or has one fault, and never both.
 pub fn one_tlv_reading()
-    ensures one_or_other { (octets : List ℕ) →
-        ((v : Tlv) × (size : ℕ) × BeginsWithTlv octets v size)
-        ⊎ ((f : TlvFault) × HasTlvFault octets f) }
-    ensures never_both { (octets : List ℕ) (v : Tlv) (size : ℕ) (f : TlvFault) →
-        BeginsWithTlv octets v size → HasTlvFault octets f → ⊥ }
-    ensures one_tlv { (octets : List ℕ) (v v' : Tlv) (size size' : ℕ) →
-        BeginsWithTlv octets v size → BeginsWithTlv octets v' size' → (v ≡ v') × (size ≡ size') }
-    ensures one_fault { (octets : List ℕ) (f f' : TlvFault) → HasTlvFault octets f →
-        HasTlvFault octets f' → f ≡ f' }
+    ensures { IsOneReading BeginsWithTlv HasTlvFault }
 {}
 
 /// Octets spell only TLVs whose fields fit them. What spells a TLV begins whatever it stands
@@ -32,10 +24,7 @@ pub fn sent_tlv_is_read()
 
 /// The reading of octets and the relations on them say the same.
 pub fn tlv_reading_is_spelling()
-    ensures found { (octets : List ℕ) (v : Tlv) (size : ℕ) → (tlv_in octets ≡ Ok (v, size))
-        ↔ BeginsWithTlv octets v size }
-    ensures refused { (octets : List ℕ) (f : TlvFault) → (tlv_in octets ≡ Err f)
-        ↔ HasTlvFault octets f }
+    ensures { IsSpelling tlv_in BeginsWithTlv HasTlvFault }
 {}
 
 /// The definitions at TLVs that were made out by hand.

@@ -17,8 +17,7 @@ use Rattle.ptu_history.proofs.Unique.{Apart, Apart-from_pairs, Contains-first, C
 use Rattle.ptu_shard.specs.{declared.lease.Row.{Row}, Table.{StandsAt}}
 use Rattle.ptu_admit.specs.{declared.shed_list.Shed.{Shed}, Newest.{grant_of}, Rows.{live_rows}}
 use Rattle.ptu_admit.{specs.Shed.{shed_of}, proofs.Grants.{row_of_live}}
-use Rattle.ptu_admit.proofs.Sums.{Contains-map, IsMapped}
-use Rattle.ptu_shard.proofs.{SoFar.{length-filter-le}, Standing.{is_live_row}}
+use Rattle.ptu_shard.proofs.{SoFar.{length-filter-le}, Spending.{Contains-image, IsImage}, Standing.{is_live_row}}
 use Rattle.ptu_grandmaster.specs.{Changed.{AreShedAt, leases_shed}, Gm.{KeptGm, StandsFor}}
 use Rattle.ptu_nodes.specs.GrandmasterPorts.{rows_kept}
 
@@ -61,8 +60,8 @@ module _ (opening : ℕ) (gm : KeptGm MemoryPort) (history : List Record) (stood
   module _ (g : Grant) (last : IsLastDecision history g) (before : x < g.until) where
     in_table : (j : ℕ) (rows : List Row) (moment : ℕ) → StandsAt (book_moment history) j rows moment history → table_of g.client ≡ j → Contains (grants_in x rows) g
     in_table j rows moment s own =
-        let m : IsMapped grant_of (live_rows x rows) g = row_of_live (book_moment history) j rows moment history x s (inl reached) g last before own in
-        subst (λ z. Contains (grants_in x rows) z) m.is (Contains-map grant_of (live_rows x rows) m.from m.contained)
+        let m : IsImage grant_of (live_rows x rows) g = row_of_live (book_moment history) j rows moment history x s (inl reached) g last before own in
+        subst (λ z. Contains (grants_in x rows) z) m.is (Contains-image grant_of (live_rows x rows) m.from m.contained)
 
     in_one : (j : ℕ) → table_of g.client ≡ j → j < 4 → Contains kept g
     in_one zero own lt =

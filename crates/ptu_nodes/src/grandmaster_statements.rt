@@ -78,14 +78,14 @@ fn decision(outcome: &Outcome) -> Decision
 {
     match *outcome {
         Outcome::Verdict(_, Verdict::Granted(grant)) => Decision::Granted {
-            kind: grant.kind(),
-            log: grant.log().value(),
+            kind: grant.terms().kind,
+            log: grant.terms().log.value(),
             at: grant.at(),
             until: grant.until(),
         },
         Outcome::Verdict(_, Verdict::Short(shortage)) => Decision::Short {
-            kind: shortage.kind(),
-            log: shortage.log().value(),
+            kind: shortage.lack().kind,
+            log: shortage.lack().log.value(),
             at: shortage.at(),
             others: shortage.others(),
             rate: shortage.rate(),

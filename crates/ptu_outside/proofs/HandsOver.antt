@@ -1,12 +1,11 @@
 -- Datagrams that are handed to a port: none, one, and one list after another.
 use Rattle.std.proofs.Common.{◌≡◌, ◌∙◌, inl, inr, ℕ, suc, zero, ◌+◌, ◌-◌, ◌^◌, ◌≤◌, ◌++◌, List, [], ◌∷◌, length, rules, Result, Ok, Err, Bool, true, false, refl, sym, ap, subst, arith, append_assoc, length-append, Option, Some, None}
-use Rattle.std.specs.List.{AllByRecursion, items_where_true}
+use Rattle.std.specs.{List.{AllByRecursion, items_where_true}, Result.{IsOk, OnErr, OnOk}}
 use Rattle.std.proofs.lemmas.List.{append-nil}
 use Rattle.ptu_outside.specs.{declared.port.Port.{Ghosts as Ports}, Departure.{Departure}}
 use Rattle.ptu_outside.specs.Faults.{HasRisen, HasRisenBy, HasRisenJust, HasNotFallen, one_more}
 use Rattle.ptu_outside.specs.Telling.{IfTold, TellsOn, append_told}
 use Rattle.ptu_outside.specs.HandsOver.{HandsOver, SentOf, failed_in, sent_in}
-use Rattle.std.specs.Result.{IsOk, OnErr, OnOk}
 
 pub told_none : (before : Option (List Departure)) → IfTold before (append_told before [])
 told_none None = tt

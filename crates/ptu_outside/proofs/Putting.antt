@@ -188,15 +188,3 @@ module _ {K : Type 0} (written : K → Option (List ℕ)) (handed : K → Option
   -- all of them
   pub HasPutPart-whole : (a b : K) (xs : List (List ℕ)) → HasPut written handed a b xs → HasPutPart written handed a b xs
   HasPutPart-whole a b xs p = subst (HasPutPart written handed a b) (append-nil xs) (HasPut-front a b xs [] p)
-
-  -- the octets that were written are a front of all of them
-  pub front_written : (a b : K) (texts : List (List ℕ)) → HasPutPart written handed a b texts
-      → (front : List ℕ) × (rest : List ℕ) × (joined texts ≡ front ++ rest) × (written b ≡ append_known (written a) front)
-  front_written a b texts p =
-      let after = rest_of p.later p.begun in
-      (joined p.done ++ p.front, after.0, ap joined p.parts ∙ (joined-append p.done p.later ∙ (ap (λ l. joined p.done ++ l) after.1 ∙ sym (append_assoc (joined p.done) p.front after.0))), p.written_is)
-    where
-      rest_of : (later : List (List ℕ)) → IsFirstBegun later p.front p.last_pieces → (rest : List ℕ) × (joined later ≡ p.front ++ rest)
-      rest_of [] h = ([], sym (ap (λ l. l ++ []) h.0))
-      rest_of (x ∷ xs) (inl h) = (joined (x ∷ xs), sym (ap (λ l. l ++ joined (x ∷ xs)) h.0))
-      rest_of (x ∷ xs) (inr h) = (h.left ++ joined xs, ap (λ l. l ++ joined xs) h.parts ∙ append_assoc p.front h.left (joined xs))

@@ -7,7 +7,6 @@ pub mod Departure
 pub mod Clocks
 pub mod MemoryPort
 pub mod MemoryClock
-pub mod MemoryHost
 pub mod Standard
 pub mod HandsOver
 pub mod Replies

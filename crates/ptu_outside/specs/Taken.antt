@@ -1,8 +1,7 @@
 -- What rounds took of the two channels, whatever the ports tell and however often they failed.
 use Rattle.std.specs.Prelude.{◌≡◌, ℕ, ◌+◌, ◌≤◌, List, [], ◌∷◌, ◌++◌, length, Option, Some, IfSome}
 use Rattle.std.specs.List.{AllByRecursion}
-use Rattle.ptu_outside.specs.declared.arrival.Arrival.{Arrival}
-use Rattle.ptu_outside.specs.Rounds.{most}
+use Rattle.ptu_outside.specs.{declared.arrival.Arrival.{Arrival}, Rounds.{most}}
 
 -- what one round took of each channel
 pub record Round : Type 0 where

@@ -1,9 +1,5 @@
 //! Why a daemon ended before its last round, or without its closing line.
 
-ghost use Rattle.std.specs.Prelude.{◌≡◌};
-ghost use Rattle.ptu_outside.specs.declared.fault.DaemonFault.TheVariants.{OutOfMemory as NoMemory};
-
-use ptu_units::OutOfMemory;
 use thiserror::Error;
 
 /// Why a daemon ended before its last round, or without its last line.
@@ -18,12 +14,4 @@ pub enum DaemonFault {
     /// Memory is wanting.
     #[error("out of memory")]
     OutOfMemory,
-}
-
-impl From<OutOfMemory> for DaemonFault {
-    ghost from_gives = { λ _ fault. fault ≡ NoMemory };
-
-    fn from(_: OutOfMemory) -> DaemonFault {
-        DaemonFault::OutOfMemory
-    }
 }

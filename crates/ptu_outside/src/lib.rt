@@ -49,6 +49,6 @@ pub use port::Port;
 pub use reply::Reply;
 pub use sends::Sends;
 pub use sink::{Sink, write_whole};
-pub use source::Source;
-pub use standard::{StdSink, StdSource};
+pub use source::{Source, read_behind};
+pub use standard::{Counted, StdSink, StdSource};
 pub use tally::Tally;

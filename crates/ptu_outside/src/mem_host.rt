@@ -9,34 +9,24 @@ use crate::host::Host;
 use crate::mem_clock::MemClock;
 use crate::mem_port::MemPort;
 use crate::opened::Opened;
-use std::marker::Model;
 
 /// A host in memory, which opens its ports and clocks once, and a control port once if it has one.
 /// It is always observable.
 pub struct MemHost {
-    opening: Option<Opened<MemPort, MemClock>>,
-    back: Option<Opened<MemPort, MemClock>>,
-    opened_at: Option<Endpoint>,
-    control: Option<MemPort>,
-    control_back: Option<MemPort>,
-    control_at: Option<u16>,
-    faults: u64,
-}
-
-impl Model for MemHost {
-    ghost use Rattle.ptu_outside.specs.MemoryHost.{MemoryHost};
-
-    ghost Value = { MemoryHost };
-
-    ghost view = { λ h. record {
-      opening = h.opening;
-      back = h.back;
-      opened_at = h.opened_at;
-      control = h.control;
-      control_back = h.control_back;
-      control_at = h.control_at;
-      faults = h.faults;
-    } };
+    /// The ports and clocks that it will open.
+    pub opening: Option<Opened<MemPort, MemClock>>,
+    /// The ports and clocks that it was given back last.
+    pub back: Option<Opened<MemPort, MemClock>>,
+    /// Where it opened last.
+    pub opened_at: Option<Endpoint>,
+    /// The control port that it will open.
+    pub control: Option<MemPort>,
+    /// The control port that it was given back last.
+    pub control_back: Option<MemPort>,
+    /// The UDP port number at which it opened a control port last.
+    pub control_at: Option<u16>,
+    /// How many opens failed.
+    pub faults: u64,
 }
 
 impl MemHost {
@@ -77,27 +67,6 @@ impl MemHost {
         ensures { option_copied result ≡ self.now.back }
     {
         self.back.as_ref()
-    }
-
-    /// Where it opened last.
-    pub fn opened_at(&self) -> Option<Endpoint>
-        ensures { result ≡ self.now.opened_at }
-    {
-        self.opened_at
-    }
-
-    /// The control port that was given back last.
-    pub fn control_back(&self) -> Option<&MemPort>
-        ensures { option_copied result ≡ self.now.control_back }
-    {
-        self.control_back.as_ref()
-    }
-
-    /// The UDP port number at which it opened a control port last.
-    pub fn control_at(&self) -> Option<u16>
-        ensures { result ≡ self.now.control_at }
-    {
-        self.control_at
     }
 }
 

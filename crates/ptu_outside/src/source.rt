@@ -1,6 +1,6 @@
 //! The trait of where octets come from.
 
-ghost use Rattle.std.specs.Prelude.{◌≡◌, ◌<◌, ◌≤◌, ◌==◌, ◌&&◌, ℕ, List, Option, false, length, take, nat_lt, IfOk, OnOk, OnErr};
+ghost use Rattle.std.specs.Prelude.{◌≡◌, ◌<◌, ◌≤◌, ◌+◌, ◌==◌, ◌&&◌, ℕ, List, Option, false, length, take, nat_lt, slice_range, IfOk, OnOk, OnErr};
 ghost use Rattle.std.specs.Io.KnownBytes.{IsAtEnd, prepend_known};
 ghost use Rattle.ptu_outside.specs.{Ends.{CountsEnd}, Faults.{HasRisen}};
 
@@ -35,4 +35,35 @@ pub trait Source {
         ensures risen { OnErr result (HasRisen (faults self.old) (faults self.new)) }
         ensures still { OnOk result (faults self.new ≡ faults self.old) }
         ensures no_fall { faults self.old ≤ faults self.new };
+}
+
+/// Reads once, at most `limit` octets, from the place `at` on, and gives how many. What stands
+/// before the place stays, and 0 is the end of input.
+///
+/// # Errors
+/// `Failed` where the source failed; then nothing was taken.
+pub fn read_behind<S: Source>(
+    source: &mut S,
+    octets: &mut [u8],
+    at: usize,
+    limit: usize,
+) -> Result<usize, Failed>
+    requires room { at < length octets.old }
+    requires some { 0 < limit }
+    ensures within { IfOk result (λ n. n ≤ limit) }
+    ensures fits { IfOk result (λ n. at + n ≤ length octets.new) }
+    ensures length { length octets.new ≡ length octets.old }
+    ensures front { take at octets.new ≡ take at octets.old }
+    ensures read { IfOk result (λ n. S.left source.old
+        ≡ prepend_known (slice_range octets.new at (at + n)) (S.left source.new)) }
+    ensures end { IfOk result (λ n. n ≡ 0 → IsAtEnd (S.left source.new)) }
+    ensures ends { IfOk result (λ n. CountsEnd (n == 0) (S.ends source.old) (S.ends source.new)) }
+    ensures left { OnErr result (S.left source.new ≡ S.left source.old) }
+    ensures no_end { OnErr result (CountsEnd false (S.ends source.old) (S.ends source.new)) }
+    ensures risen { OnErr result (HasRisen (S.faults source.old) (S.faults source.new)) }
+    ensures still { OnOk result (S.faults source.new ≡ S.faults source.old) }
+    ensures no_fall { S.faults source.old ≤ S.faults source.new }
+{
+    let room = limit.min(octets.len() - at);
+    source.read(&mut octets[at..at + room])
 }

@@ -11,32 +11,39 @@ use crate::source::Source;
 use std::io::{ErrorKind, Read, Write};
 use std::marker::Model;
 
-/// A source over a reader of std. As a source it is opaque; what the reader exposes is said of
-/// `read`.
+/// A reader or a writer of std, with the count of its calls that failed.
 #[derive(Drop)]
-pub struct StdSource<R> {
-    reader: R,
+pub struct Counted<T> {
+    inner: T,
     faults: u64,
 }
 
-impl<R> Model for StdSource<R> {
+impl<T> Model for Counted<T> {
     ghost use Rattle.ptu_outside.specs.Standard.{Over};
 
-    ghost Value = { Over R };
+    ghost Value = { Over T };
 
-    ghost view = { λ s. record { inner = s.reader; faults = s.faults } };
+    ghost view = { λ c. record { inner = c.inner; faults = c.faults } };
 }
 
-impl<R: Read + Drop> StdSource<R> {
-    /// A source over this reader.
-    pub fn new(reader: R) -> StdSource<R>
-        ensures { result ≡ record { inner = reader; faults = 0 } }
+impl<T: Drop> Counted<T> {
+    /// A source over this reader, or a sink over this writer.
+    pub fn new(inner: T) -> Counted<T>
+        ensures { result ≡ record { inner = inner; faults = 0 } }
     {
-        StdSource { reader, faults: 0 }
+        Counted { inner, faults: 0 }
     }
 }
 
-impl<R: Read + Drop> Source for StdSource<R> {
+/// A source over a reader of std. As a source it is opaque; what the reader exposes is said of
+/// `read`.
+pub type StdSource<R> = Counted<R>;
+
+/// A sink over a writer of std. As a sink it is opaque; what the writer exposes is said of `write`.
+/// It never flushes: a writer that holds octets back is flushed by whoever made it.
+pub type StdSink<W> = Counted<W>;
+
+impl<R: Read + Drop> Source for Counted<R> {
     ghost left = { λ _. None };
 
     ghost ends = { λ _. None };
@@ -59,7 +66,7 @@ impl<R: Read + Drop> Source for StdSource<R> {
             (R.remaining self.new.inner) result buf.new }
     {
         for _ in 0..u64::MAX {
-            match self.reader.read(buf) {
+            match self.inner.read(buf) {
                 Ok(octets) => return Ok(octets),
                 Err(error) if error.kind() == ErrorKind::Interrupted => {}
                 Err(_) => break,
@@ -70,32 +77,7 @@ impl<R: Read + Drop> Source for StdSource<R> {
     }
 }
 
-/// A sink over a writer of std. As a sink it is opaque; what the writer exposes is said of `write`.
-/// It never flushes: a writer that holds octets back is flushed by whoever made it.
-#[derive(Drop)]
-pub struct StdSink<W> {
-    writer: W,
-    faults: u64,
-}
-
-impl<W> Model for StdSink<W> {
-    ghost use Rattle.ptu_outside.specs.Standard.{Over};
-
-    ghost Value = { Over W };
-
-    ghost view = { λ k. record { inner = k.writer; faults = k.faults } };
-}
-
-impl<W: Write + Drop> StdSink<W> {
-    /// A sink over this writer.
-    pub fn new(writer: W) -> StdSink<W>
-        ensures { result ≡ record { inner = writer; faults = 0 } }
-    {
-        StdSink { writer, faults: 0 }
-    }
-}
-
-impl<W: Write + Drop> Sink for StdSink<W> {
+impl<W: Write + Drop> Sink for Counted<W> {
     ghost written = { λ _. None };
 
     ghost handed = { λ _. None };
@@ -118,7 +100,7 @@ impl<W: Write + Drop> Sink for StdSink<W> {
             (W.contents self.new.inner) result piece.now }
     {
         for _ in 0..u64::MAX {
-            match self.writer.write(piece) {
+            match self.inner.write(piece) {
                 Ok(0) if !piece.is_empty() => break,
                 Ok(taken) => return Ok(taken),
                 Err(error) if error.kind() == ErrorKind::Interrupted => {}

@@ -6,7 +6,7 @@ use Rattle.ptu_outside.specs.{Handing.{HasPut, HasPutFront, HasPutPart}, Telling
 use Rattle.ptu_config.specs.declared.{key.Key.{Key}, settings.GmSettings.{GmSettings}}
 use Rattle.ptu_config.specs.declared.settings.SlaveSettings.{SlaveSettings}
 use Rattle.ptu_config.specs.{Entries.{gm_entries, slave_entries}, Rounds.{all_slave_rounds}, Rules.{Value}}
-use Rattle.ptu_config.specs.declared.setup_fault.SetupFault.TheVariants.{Refused}
+use Rattle.ptu_config.specs.declared.fault.SetupFault.TheVariants.{Refused}
 use Rattle.ptu_config.specs.declared.refusal.RefusalLine.{RefusalLine}
 use Rattle.ptu_config.specs.Reading.{Answers, HasSetUp, HasTakenSome}
 use Rattle.ptu_config.specs.Refusals.{gm_refusal, setting_refusal_text, slave_refusal}

@@ -8,7 +8,7 @@ ghost use Rattle.ptu_run.specs.Run.{statuses};
 use crate::running::run;
 use crate::status::{OUT_OF_MEMORY, SINK_FAULT, USAGE};
 use ptu_judges::Stock;
-use ptu_outside::{Host, StdSink, StdSource};
+use ptu_outside::{Counted, Host};
 use std::io::{BufWriter, Read, Write};
 use std::sync::Wait;
 use std::thread::Threads;
@@ -42,9 +42,9 @@ where
     let Ok(mut blocks) = BufWriter::with_capacity(rt.alloc(), block, output) else {
         return OUT_OF_MEMORY;
     };
-    let mut source = StdSource::new(input);
+    let mut source = Counted::new(input);
     let status = {
-        let mut sink = StdSink::new(&mut blocks);
+        let mut sink = Counted::new(&mut blocks);
         run(rt, words, &mut source, &mut sink, host, stock)
     };
     match blocks.flush() {

@@ -9,7 +9,7 @@ use Rattle.std.proofs.lemmas.Simd.{map-map}
 use Rattle.ptu_units.specs.Client.{same_lease}
 use Rattle.ptu_history.specs.Turns.{is_turned}
 use Rattle.ptu_units.proofs.Keys.{same_lease-refl}
-use Rattle.ptu_history.proofs.Standing.{Contains-filter}
+use Rattle.ptu_history.proofs.{Standing.{Contains-filter}, Unique.{below_from}}
 use Rattle.ptu_history.proofs.Unique.{Apart-from_pairs, Contains-cons_cases, Contains-first, Contains-from_filter, Contains-later, Rises-unique}
 use Rattle.ptu_shard.specs.declared.{lease.Row.{Row}, queue.Entry.{Entry}}
 use Rattle.ptu_shard.specs.{Queue.{HasEdges, IsNoneBelow, edge_entry, entry_cmp}, Row.{is_row_of}}
@@ -17,7 +17,6 @@ use Rattle.ptu_shard.specs.Turn.{due_messages, due_rows, is_due_row, message_of_
 use Rattle.ptu_shard.proofs.{RowLists.{Differ}, Sorting.{row_cmp-differ, row_cmp-total}}
 use Rattle.ptu_shard.proofs.Spending.{Contains-image, IsImage, distinct_spent, image}
 use Rattle.ptu_shard.proofs.Members.{in_order_from, in_order_to, map_agree, map_same, one_row, rises_in_order}
-use Rattle.ptu_history.proofs.Unique.{below_from}
 
 due_from : (x : ℕ) (rows : List Row) (z : Row) → Contains (due_rows x rows) z → Contains rows z × (is_due_row x z ≡ true)
 due_from x rows z h = Contains-from_filter (is_due_row x) rows z (in_order_from (filter (is_due_row x) rows) z h)

@@ -11,10 +11,8 @@ use Rattle.ptu_history.proofs.Standing.{Contains-filter}
 use Rattle.ptu_history.proofs.Unique.{Apart-from_pairs, Contains-cons_cases, Contains-first, Contains-from_filter, Contains-later}
 use Rattle.ptu_shard.specs.declared.{lease.Lease.{Lease}, lease.Row.{Row}, queue.Entry.{Entry}}
 use Rattle.ptu_shard.specs.{Queue.{HasEnds, end_entry}, Row.{is_row_of, lease_of, without_row}}
-use Rattle.ptu_shard.proofs.RowLists.{Differ}
+use Rattle.ptu_shard.proofs.{RowLists.{Differ}, Sorting.{distinct_permuted}, Standing.{is_live_row}}
 use Rattle.ptu_shard.proofs.Members.{other_rows, own_lease, same_rows, without_other}
-use Rattle.ptu_shard.proofs.Sorting.{distinct_permuted}
-use Rattle.ptu_shard.proofs.Standing.{is_live_row}
 
 -- where all ends are later, all rows are live
 pub all_live : (n : ℕ) (rows : List Row) (entries : List Entry) → HasEnds rows entries → All (λ e. n < e.moment) entries → filter (λ row. ltb n row.lease.until) rows ≡ rows

@@ -1,16 +1,14 @@
 -- The least entry of a heap.
 use Rattle.std.proofs.Common.{◌≡◌, ◌∙◌, ℕ, ◌<◌, ◌≤◌, List, Bool, true, false, cond, eqb, ltb, refl, sym, ap, subst, map, arith, Result, Ok, Err, IsOk, OnOk, Option, Some, None, [], ◌∷◌, drop, get_or, length}
 use Rattle.std.specs.{Prelude.{IfNone, IfSome}, List.Sorted.{IsPermutation}}
-use Rattle.std.proofs.lemmas.List.Sorted.{IsPermutation-map}
+use Rattle.std.proofs.{lemmas.List.Sorted.{IsPermutation-map}, lemmas.Bool.{false≢true, true≢false}}
 use Rattle.std.specs.{BinaryHeap.{IsHeap, IsUpperBound}, List.{All}}
 use Rattle.std.specs.{Ordering.{is_lt, nat_cmp, ordering_then}, declared.cmp.Ordering.{Ordering}}
 use Rattle.std.specs.declared.cmp.{Ordering.TheVariants.{Less, Equal, Greater}, Reverse.{Reverse}}
-use Rattle.std.proofs.lemmas.Bool.{false≢true, true≢false}
 use Rattle.std.proofs.lemmas.List.Elements.{All-from_recursion, All-map, All-weaker}
 use Rattle.ptu_units.specs.Client.{client_cmp, kind_cmp}
-use Rattle.ptu_shard.specs.declared.queue.Entry.{Entry}
+use Rattle.ptu_shard.specs.{declared.queue.Entry.{Entry}, Queue.{IsNoneBelow, entry_cmp}}
 use Rattle.ptu_shard.specs.contracts.queue.EntryOrd.TheImpl as entries
-use Rattle.ptu_shard.specs.Queue.{IsNoneBelow, entry_cmp}
 use Rattle.ptu_history.proofs.Order.{kind_cmp_is}
 
 entry_cmp_is : (a b : Entry) → entries.cmp-value.it a b ≡ entry_cmp a b

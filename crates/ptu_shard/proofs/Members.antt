@@ -12,9 +12,8 @@ use Rattle.ptu_units.proofs.Keys.{same_lease-refl, same_lease-sym, same_lease-tr
 use Rattle.ptu_history.proofs.Order.{IsAsymmetric-total, IsPermutation-in_order, IsSorted-in_order}
 use Rattle.ptu_history.proofs.Standing.{Contains-filter}
 use Rattle.ptu_history.proofs.Unique.{Apart, Apart-from_pairs, Contains-cons_cases, Contains-first, Contains-from_filter, Contains-later, Rises, Rises-from_sorted, Rises-unique, pairs_from_Apart}
-use Rattle.ptu_shard.specs.declared.lease.{Lease.{Lease}, Row.{Row}}
+use Rattle.ptu_shard.specs.{declared.lease.{Lease.{Lease}, Row.{Row}}, Turn.{row_cmp}}
 use Rattle.ptu_shard.specs.Row.{is_row_of, lease_of, rate_of_lease, share_of, without_row}
-use Rattle.ptu_shard.specs.Turn.{row_cmp}
 use Rattle.ptu_shard.proofs.RowLists.{Differ, HasSameMembers, IsMissing, IsPresent, missing_none, present_some}
 use Rattle.ptu_shard.proofs.Sorting.{distinct_permuted, row_cmp-differ, row_cmp-total}
 

@@ -1,8 +1,7 @@
 -- What a Delay_Req meets, by the rows.
 use Rattle.std.proofs.Common.{◌≡◌, ◌∙◌, inr, ℕ, ◌≤◌, ◌++◌, List, [], ◌∷◌, Bool, true, false, ◌&&◌, cond, ltb, leb, refl, sym, ap, ap₂, subst, arith, append_assoc, Option, Some, None}
 use Rattle.std.specs.{List.{Contains}, Option.{option_map_or}}
-use Rattle.std.proofs.lemmas.Bool.{leb-true, ltb-true}
-use Rattle.std.proofs.Math.Bool.{and-true, and-false}
+use Rattle.std.proofs.{lemmas.Bool.{leb-true, ltb-true}, Math.Bool.{and-true, and-false}}
 use Rattle.ptu_units.specs.declared.kind.Kind.TheVariants.{DelayResp}
 use Rattle.ptu_units.specs.{declared.client.Client.{Client}, Client.{table_of}}
 use Rattle.ptu_history.specs.{History.{Record, Looked, Sent}, Moments.{book_part, greatest_by}}
@@ -13,9 +12,8 @@ use Rattle.ptu_units.proofs.Keys.{same_lease-true}
 use Rattle.ptu_shard.specs.declared.lease.{Lease.{Lease}, Row.{Row}}
 use Rattle.ptu_shard.specs.{Answered.{answer_by}, Row.{is_row_of, lease_of}, Table.{StandsAt}}
 use Rattle.ptu_shard.specs.Turn.{is_answering_row, is_lawful_row, spent_where}
-use Rattle.ptu_shard.proofs.RowLists.{IsPresent, present_some}
+use Rattle.ptu_shard.proofs.{RowLists.{IsPresent, present_some}, Turns.{lawful_row, live_kept}}
 use Rattle.ptu_shard.proofs.Spending.{spent_agree, spent_none, stands_looked, stands_sent}
-use Rattle.ptu_shard.proofs.Turns.{lawful_row, live_kept}
 
 -- the answer by a lease, with the tests of the definition
 by_tests : (x u e : ℕ) → cond (ltb x u && leb e x) step.Answered (cond (ltb x u) (step.TooSoon e) step.NoGrant) ≡ cond (leb u x) step.NoGrant (cond (ltb x e) (step.TooSoon e) step.Answered)

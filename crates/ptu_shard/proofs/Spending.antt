@@ -8,9 +8,8 @@ use Rattle.ptu_units.specs.{declared.client.Client.{Client}, Client.{same_lease,
 use Rattle.ptu_history.specs.{History.{Record, Looked, Sent}, Moments.{table_moment, table_part}}
 use Rattle.ptu_history.specs.{Live.{Grant}, Lawful.{earliest, edge_after, last_period}, Turns.{sent_record}}
 use Rattle.ptu_units.proofs.Keys.{eq-eqb-self, same_lease-sym, same_lease-true}
-use Rattle.ptu_history.proofs.Moments.{table_moment-push}
+use Rattle.ptu_history.proofs.{Moments.{table_moment-push}, Standing.{last_pushed}}
 use Rattle.ptu_history.proofs.Renewals.{edge_sent, last_period-granted, sequence_sent}
-use Rattle.ptu_history.proofs.Standing.{last_pushed}
 use Rattle.ptu_history.proofs.Unique.{Apart, Contains-cons_cases, Contains-first, Contains-later}
 use Rattle.ptu_shard.specs.declared.lease.{Lease.{Lease}, Row.{Row}}
 use Rattle.ptu_shard.specs.{Row.{is_row_of, lease_of, share_of}, Table.{IsLeaseOf, StandsAt}}

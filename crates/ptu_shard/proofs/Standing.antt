@@ -1,14 +1,13 @@
 -- What rows stand for, after one more record and after what is done with them.
-use Rattle.std.proofs.Common.{◌≡◌, ◌∙◌, ◌⊎◌, inl, inr, ℕ, ◌≤◌, max, ◌++◌, List, [], ◌∷◌, Bool, true, false, not, cond, leb, ltb, refl, sym, ap, subst, arith, Some, None, ℤ}
+use Rattle.std.proofs.Common.{◌≡◌, ◌∙◌, ◌⊎◌, inl, inr, ℕ, ◌≤◌, max, ◌++◌, List, [], ◌∷◌, Bool, true, false, not, cond, ltb, refl, sym, ap, subst, arith, Some, None, ℤ}
 use Rattle.std.specs.List.{Contains, filter}
-use Rattle.std.proofs.lemmas.Bool.{false_from_ne_true, true≢false, not-true}
+use Rattle.std.proofs.lemmas.Bool.{false_from_ne_true, ltb-false, true≢false, not-true}
 use Rattle.ptu_units.specs.declared.kind.Kind.{Kind}
 use Rattle.ptu_units.specs.{declared.client.Client.{Client}, Client.{same_lease, table_of}}
 use Rattle.ptu_history.specs.History.{Record, Granted, concerns, is_decision, moment_of}
 use Rattle.ptu_history.specs.{Moments.{table_moment, table_part}, Live.{last_decision}}
 use Rattle.ptu_units.proofs.Keys.{same_lease-sym, same_lease-true}
-use Rattle.ptu_history.proofs.Moments.{table_moment-push}
-use Rattle.ptu_history.proofs.Standing.{Contains-filter, last_pushed}
+use Rattle.ptu_history.proofs.{Moments.{table_moment-push}, Standing.{Contains-filter, last_pushed}}
 use Rattle.ptu_history.proofs.Strangers.{earliest-push, sequence_number-push}
 use Rattle.ptu_history.proofs.Unique.{Contains-cons_cases, Contains-first, Contains-from_filter, Contains-later}
 use Rattle.ptu_shard.specs.declared.lease.{Lease.{Lease}, Row.{Row}}
@@ -38,13 +37,6 @@ granted_row book j moment history rows s c k n l u last row h own =
     let both : Granted n c k l u ≡ Granted row.lease.start row.client row.kind row.lease.log row.lease.until = cc in
     (cc, cc, cc)
 
-not_above : (n u : ℕ) → (ltb n u ≡ true → ⊥) → u ≤ n
-not_above n u never = at (leb u n) refl
-  where
-    at : (b : Bool) → leb u n ≡ b → u ≤ n
-    at true e = grind arith
-    at false e = absurd (never (grind arith))
-
 -- the row is live at the moment
 abbrev pub is_live_row : ℕ → Row → Bool
 is_live_row n row = ltb n row.lease.until
@@ -66,8 +58,8 @@ stands_swept book j moment n history rows s = record {
     over c k m l u own last none (inr (lease, e)) =
         let p : IsPresent c k rows lease = present_some c k rows lease e in
         let has : (p.row.lease.start ≡ m) × (p.row.lease.log ≡ l) × (p.row.lease.until ≡ u) = granted_row book j moment history rows s c k m l u last p.row p.contained p.own in
-        let gone : p.row.lease.until ≤ n = not_above n p.row.lease.until (λ yes.
-        true≢false (sym p.own ∙ missing_none c k (filter (is_live_row n) rows) none p.row (Contains-filter (is_live_row n) rows p.row p.contained yes))) in
+        let gone : p.row.lease.until ≤ n = ltb-false n p.row.lease.until (false_from_ne_true (ltb n p.row.lease.until) (λ yes.
+        true≢false (sym p.own ∙ missing_none c k (filter (is_live_row n) rows) none p.row (Contains-filter (is_live_row n) rows p.row p.contained yes)))) in
         let is : p.row.lease.until ≡ u = has.2 in
         (omega arith, omega arith)
 

@@ -1,6 +1,6 @@
 -- The messages and records of a turn and of a Delay_Req, by the rows.
-use Rattle.std.proofs.Common.{◌≡◌, ◌∙◌, ◌⊎◌, inl, inr, ℕ, zero, suc, ◌+◌, ◌<◌, ◌≤◌, ◌++◌, List, [], ◌∷◌, length, get_or, Bool, true, false, ◌&&◌, ◌||◌, eqb, ltb, leb, refl, sym, ap, ap₂, subst, map, arith, append_assoc, Option, Some, None, ℤ}
-use Rattle.std.specs.List.{AllPairs, Contains, filter, list_any}
+use Rattle.std.proofs.Common.{◌≡◌, ◌∙◌, ◌⊎◌, inl, inr, ℕ, zero, suc, ◌+◌, ◌<◌, ◌≤◌, ◌++◌, List, [], ◌∷◌, length, get_or, Bool, true, false, ◌&&◌, eqb, ltb, leb, refl, sym, ap, ap₂, subst, map, arith, append_assoc, Option, Some, None, ℤ}
+use Rattle.std.specs.List.{AllPairs, Contains, filter}
 use Rattle.std.specs.{List.Sorted.{IsSorted, IsSortedBy}, Option.{option_map_or}}
 use Rattle.std.specs.Ordering.{is_lt, nat_cmp, ordering_then}
 use Rattle.std.proofs.lemmas.Bool.{and_parts, eqb-true, false_from_ne_true, ltb-true, true≢false}
@@ -13,44 +13,18 @@ use Rattle.ptu_history.specs.Live.{Grant, IsDistinctByLease, IsLastDecision, is_
 use Rattle.ptu_history.specs.{Runs.{sequence_number}, Lawful.{earliest, lawful}}
 use Rattle.ptu_history.specs.Turns.{due_grants, is_due, is_turned, message_of, sent_record, turn_cmp}
 use Rattle.ptu_units.proofs.Keys.{same_lease-refl, same_lease-true}
-use Rattle.ptu_history.proofs.Currents.{live-standing}
+use Rattle.ptu_history.proofs.{Currents.{live-standing}, Standing.{Contains-filter, standing-last}}
 use Rattle.ptu_history.proofs.Order.{IsAsymmetric-total, IsPermutation-in_order, IsSorted-in_order}
 use Rattle.ptu_history.proofs.Orders.{due_grants-distinct, due_grants-members, due_grants-only}
-use Rattle.ptu_history.proofs.Standing.{Contains-filter, standing-last}
-use Rattle.ptu_history.proofs.Unique.{Apart, Apart-from_pairs, Contains-cons_cases, Contains-first, Contains-from_filter, Contains-later, pairs_from_Apart}
+use Rattle.ptu_history.proofs.Unique.{Apart, Apart-from_pairs, Contains-first, Contains-from_filter, Contains-later, pairs_from_Apart}
 use Rattle.ptu_history.proofs.Members as grants
-use Rattle.ptu_history.proofs.Members.{same_test}
+use Rattle.ptu_history.proofs.Members.{any_member, member_any, same_test}
 use Rattle.ptu_shard.specs.declared.lease.{Lease.{Lease}, Row.{Row}}
 use Rattle.ptu_shard.specs.{Row.{is_row_of, lease_of}, Table.{StandsAt}}
 use Rattle.ptu_shard.specs.Turn.{due_messages, due_rows, is_due_row, is_lawful_row, message_of_row, row_cmp, spent_where}
 use Rattle.ptu_shard.proofs.RowLists.{Differ, IsPresent, lease_cases, missing_none, present_some}
 use Rattle.ptu_shard.proofs.{Standing.{granted_row}, Sorting.{distinct_permuted, row_cmp-total}}
 use Rattle.ptu_shard.proofs.Spending.{Contains-image, IsImage, image, is_among, spent_agree, spent_each, spent_each-among, stands_each, stands_looked}
-
--- a test of another list that gives the same
-pub list_any-contains : {A : Type 0} (p : A → Bool) (xs : List A) (x : A) → Contains xs x → p x ≡ true → list_any p xs ≡ true
-list_any-contains p [] x (i, lt, e) h = absurd (omega arith)
-list_any-contains p (y ∷ xs) x c h = at (p y) refl (Contains-cons_cases y xs x c) (list_any-contains p xs x)
-  where
-    at : (b : Bool) → p y ≡ b → (y ≡ x) ⊎ Contains xs x → (Contains xs x → p x ≡ true → list_any p xs ≡ true) → (b || list_any p xs) ≡ true
-    at true e h' later = refl
-    at false e (inl same) later = absurd (true≢false (sym h ∙ ap p (sym same) ∙ e))
-    at false e (inr c') later = later c' h
-
-pub record IsSome_of {A : Type 0} (p : A → Bool) (xs : List A) : Type 0 where
-  pub item : A
-  pub contained : Contains xs item
-  pub passes : p item ≡ true
-
-pub some_of : {A : Type 0} (p : A → Bool) (xs : List A) → list_any p xs ≡ true → IsSome_of p xs
-some_of p [] e = absurd (true≢false (sym e))
-some_of p (y ∷ xs) e = at (p y) refl e (some_of p xs)
-  where
-    at : (b : Bool) → p y ≡ b → (b || list_any p xs) ≡ true → (list_any p xs ≡ true → IsSome_of p xs) → IsSome_of p (y ∷ xs)
-    at true h e' later = record { item = y; contained = Contains-first y xs; passes = h }
-    at false h e' later =
-        let found : IsSome_of p xs = later e' in
-        record { item = found.item; contained = Contains-later y xs found.item found.contained; passes = found.passes }
 
 -- the grant of a row
 abbrev pub grant_of : Row → Grant
@@ -148,17 +122,17 @@ module _ (book j moment : ℕ) (history : List Record) (rows : List Row) (s : St
     where
       no_row : lease_of c k rows ≡ None → live history x c k ≡ true → ⊥
       no_row none holds =
-          let found : IsSome_of (is_live_of x c k) (standing history) = some_of (is_live_of x c k) (standing history) (sym (live-standing x c k history) ∙ holds) in
-          let both : (same_lease c k found.item.client found.item.kind ≡ true) × (ltb x found.item.until ≡ true) = and_parts (same_lease c k found.item.client found.item.kind) (ltb x found.item.until) found.passes in
-          let same : (c ≡ found.item.client) × (k ≡ found.item.kind) = same_lease-true c k found.item.client found.item.kind both.0 in
-          let last : IsLastDecision history found.item = All-contains (IsLastDecision history) (standing history) found.item (standing-last history) found.contained in
-          let kept : HasRow found.item = row_of_live x reached found.item (ap table_of (sym same.0) ∙ own) last (ltb-true x found.item.until both.1) in
-          let c_is : c ≡ found.item.client = same.0 in
-          let k_is : k ≡ found.item.kind = same.1 in
+          let found = any_member (is_live_of x c k) (standing history) (sym (live-standing x c k history) ∙ holds) in
+          let both : (same_lease c k found.0.client found.0.kind ≡ true) × (ltb x found.0.until ≡ true) = and_parts (same_lease c k found.0.client found.0.kind) (ltb x found.0.until) found.2 in
+          let same : (c ≡ found.0.client) × (k ≡ found.0.kind) = same_lease-true c k found.0.client found.0.kind both.0 in
+          let last : IsLastDecision history found.0 = All-contains (IsLastDecision history) (standing history) found.0 (standing-last history) found.1 in
+          let kept : HasRow found.0 = row_of_live x reached found.0 (ap table_of (sym same.0) ∙ own) last (ltb-true x found.0.until both.1) in
+          let c_is : c ≡ found.0.client = same.0 in
+          let k_is : k ≡ found.0.kind = same.1 in
           true≢false (
-          sym (same_lease-refl found.item.client found.item.kind)
-          ∙ ap (λ (g : Grant). same_lease found.item.client found.item.kind g.client g.kind) (sym kept.is)
-          ∙ ap (λ d. same_lease d found.item.kind kept.row.client kept.row.kind) (sym c_is)
+          sym (same_lease-refl found.0.client found.0.kind)
+          ∙ ap (λ (g : Grant). same_lease found.0.client found.0.kind g.client g.kind) (sym kept.is)
+          ∙ ap (λ d. same_lease d found.0.kind kept.row.client kept.row.kind) (sym c_is)
           ∙ ap (λ i. same_lease c i kept.row.client kept.row.kind) (sym k_is)
           ∙ missing_none c k rows none kept.row kept.contained
           )
@@ -239,17 +213,17 @@ module _ (book j moment : ℕ) (history : List Record) (rows : List Row) (s : St
       where
         to : is_among (due_grants history x j) row ≡ true → is_due_row x row ≡ true
         to holds =
-            let found : IsSome_of (λ (g : Grant). is_row_of g.client g.kind row) (due_grants history x j) = some_of (λ (g : Grant). is_row_of g.client g.kind row) (due_grants history x j) holds in
-            let same : (found.item.client ≡ row.client) × (found.item.kind ≡ row.kind) = same_lease-true found.item.client found.item.kind row.client row.kind found.passes in
-            let due : is_due history x j found.item ≡ true = ((due_grants-members history x j found.item).0 found.contained).1 in
+            let found = any_member (λ (g : Grant). is_row_of g.client g.kind row) (due_grants history x j) holds in
+            let same : (found.0.client ≡ row.client) × (found.0.kind ≡ row.kind) = same_lease-true found.0.client found.0.kind row.client row.kind found.2 in
+            let due : is_due history x j found.0 ≡ true = ((due_grants-members history x j found.0).0 found.1).1 in
             sym (due_row x row h)
             ∙ ap (λ c. is_turned row.kind && eqb (table_of c) j && lawful history x c row.kind) (sym same.0)
-            ∙ ap (λ k. is_turned k && eqb (table_of found.item.client) j && lawful history x found.item.client k) (sym same.1)
+            ∙ ap (λ k. is_turned k && eqb (table_of found.0.client) j && lawful history x found.0.client k) (sym same.1)
             ∙ due
 
         from : is_due_row x row ≡ true → is_among (due_grants history x j) row ≡ true
         from holds =
-            list_any-contains (λ (g : Grant). is_row_of g.client g.kind row) (due_grants history x j) (grant_of row)
+            member_any (λ (g : Grant). is_row_of g.client g.kind row) (due_grants history x j) (grant_of row)
             ((due_grants-members history x j (grant_of row)).1 (last_row row h, due_row x row h ∙ holds)) (same_lease-refl row.client row.kind)
 
     pub stands_turned : StandsAt book j (spent_where (is_due_row x) x rows) x (history ++ Looked x j ∷ map (sent_record x) (due_grants history x j))

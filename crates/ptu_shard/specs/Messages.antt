@@ -7,9 +7,8 @@ use Rattle.ptu_messages.specs.declared.header.Header.{Header}
 use Rattle.ptu_messages.specs.declared.message.{AnnounceBody.{AnnounceBody}, Body.{Body}}
 use Rattle.ptu_messages.specs.declared.message.Body.TheVariants as body
 use Rattle.ptu_messages.specs.{declared.message.Message.{Message as Timed}, Sent.{octets_sent}}
-use Rattle.ptu_outside.specs.declared.channel.Channel.{Channel}
+use Rattle.ptu_outside.specs.{declared.channel.Channel.{Channel}, Departure.{Departure}}
 use Rattle.ptu_outside.specs.declared.channel.Channel.TheVariants.{Event, General}
-use Rattle.ptu_outside.specs.Departure.{Departure}
 use Rattle.ptu_units.specs.{declared.client.Client.{Client}, Time.{second}}
 use Rattle.ptu_history.specs.Events.{Message}
 use Rattle.ptu_profile.specs.{declared.grandmaster.GmConfig.{GmConfig}, Grandmaster.{header_of}}

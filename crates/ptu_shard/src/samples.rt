@@ -1,7 +1,7 @@
-//! Values for tests and examples: a client of each table of a grandmaster, and the header of a
-//! Delay_Req; and those of `ptu_profile`.
+//! Values for tests and examples: a client of each table of a grandmaster, the header of a
+//! Delay_Req of that of table 2, and those of `ptu_profile`.
 
-use ptu_messages::{Header, PortIdentity};
+pub use ptu_messages::samples::DELAY_REQ;
 pub use ptu_profile::samples::CONFIG;
 use ptu_units::Client;
 
@@ -34,17 +34,4 @@ pub const THREE: Client = Client {
     ip: 0x0a00_0112,
     clock: 0x0a00_0000_0000_0012,
     port: 1,
-};
-
-/// The header of a Delay_Req of the client of table 2, with the sequenceId 7.
-pub const DELAY_REQ: Header = Header {
-    message_type: 1,
-    domain: 4,
-    flags: 0x0400,
-    correction: 0,
-    source: PortIdentity {
-        clock: 0x0a00_0000_0000_0011,
-        port: 1,
-    },
-    sequence: 7,
 };

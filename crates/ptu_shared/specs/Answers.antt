@@ -6,7 +6,7 @@ use Rattle.ptu_messages.specs.declared.tlv.Ask.{Ask}
 use Rattle.ptu_profile.specs.declared.grandmaster.GmConfig.{GmConfig}
 use Rattle.ptu_admit.specs.declared.verdict.Verdict.{Verdict}
 use Rattle.ptu_admit.specs.declared.verdict.Verdict.TheVariants.{Granted, Short, Outside}
-use Rattle.ptu_admit.specs.{Terms.{Lack, Terms}, Verdict.{ask_of, cause_of}}
+use Rattle.ptu_admit.specs.{declared.verdict.Lack.{Lack}, declared.verdict.Terms.{Terms}, Verdict.{ask_of, cause_of}}
 
 -- a grant to the client of what was asked for, for the lesser of the asked and the longest duration, from a moment on that is
 -- not before the one that was handed in

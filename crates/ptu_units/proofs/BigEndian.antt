@@ -2,9 +2,8 @@
 use Rattle.std.proofs.Common.{◌≡◌, ℕ, zero, suc, ◌+◌, ◌*◌, ◌^◌, ◌<◌, ◌≤◌, List, ◌∷◌, ◌++◌, length, get_or, take, refl, ap, ◌∙◌, arith, zero-add, inl, inr}
 use Rattle.std.specs.{Prelude.{◌/◌, ◌%◌, All}, Int.{byte_at}}
 use Rattle.std.proofs.Math.Nat.{div-add-mod, div-div-eq-div-mul, mod-eq_of_lt, pow-suc}
-use Rattle.std.proofs.lemmas.Bool.{cases_lt}
+use Rattle.std.proofs.{lemmas.Bool.{cases_lt}, lemmas.List.Elements.{All-get_or}}
 use Rattle.std.proofs.lemmas.List.{get_or_append_left, get_or-append-add, get_or-take, get_or_past}
-use Rattle.std.proofs.lemmas.List.Elements.{All-get_or}
 use Rattle.ptu_units.specs.Number.{number_at, octets_of}
 
 -- ---- what stands elsewhere

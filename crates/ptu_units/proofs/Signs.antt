@@ -1,8 +1,7 @@
 -- A number with a sign that was written is the number at its place.
-use Rattle.std.proofs.Common.{◌≡◌, ap, ◌∙◌, arith}
+use Rattle.std.proofs.{Common.{◌≡◌, ap, ◌∙◌, arith}, lemmas.Int.{to_z-of_z}, Math.Facts.{Fits-of_z}}
 use Rattle.std.specs.{Prelude.{ℤ}, Int.{w8, w16, w64, cast_signed, cast_unsigned}}
 use Rattle.std.specs.Int.RustNames.{FitsSigned}
-use Rattle.std.proofs.{lemmas.Int.{to_z-of_z}, Math.Facts.{Fits-of_z}}
 use Rattle.ptu_units.specs.Number.{signed_at, signed_octets}
 use Rattle.ptu_units.proofs.BigEndian.{number_at-octets_of}
 

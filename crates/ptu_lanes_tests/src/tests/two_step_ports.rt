@@ -119,7 +119,7 @@ fn assert_given_back(rt: &impl Abort, host: &mut MemHost) -> Result<(), Fail> {
     assert!(rt; is_sent(&back.p2, 0, Channel::Event, &IN_TWO));
     assert!(rt; is_sent(&back.p2, 1, Channel::General, &FOLLOW_UP));
     assert!(rt; back.p1.sent(0).is_none());
-    assert_eq!(rt; host.opened_at().map(|at| at.general_port), Some(320));
+    assert_eq!(rt; host.opened_at.map(|at| at.general_port), Some(320));
     Ok(())
 }
 

@@ -148,14 +148,13 @@ fn cancel_two(rt: &impl Abort, site: &mut Site) -> Result<bool, Fail> {
 
 fn close(rt: &impl Abort, site: &mut Site) {
     check_sum(rt, site);
-    let Site {
-        s0,
-        s1,
-        s2,
-        s3,
-        book,
-    } = site;
-    finish(s0, s1, s2, s3, book);
+    finish(
+        &mut site.s0,
+        &mut site.s1,
+        &mut site.s2,
+        &mut site.s3,
+        &mut site.book,
+    );
     assert!(rt; site.book.total() == 0);
 }
 

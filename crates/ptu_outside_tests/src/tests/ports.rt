@@ -82,7 +82,7 @@ fn open_and_close<H: Host>(host: &mut H) -> Result<(), Failed> {
 fn a_host_opens_once_and_takes_back(rt: HostRuntime) {
     let alloc = rt.alloc();
     let mut host = MemHost::new(opened_with(alloc, idle_port(alloc)), false);
-    let before = (host.back().is_none(), host.opened_at());
+    let before = (host.back().is_none(), host.opened_at);
     assert_eq!(rt; before, (true, None));
     let endpoint = Endpoint {
         ip: 0x7f00_0001,
@@ -90,12 +90,12 @@ fn a_host_opens_once_and_takes_back(rt: HostRuntime) {
         general_port: 320,
     };
     let opened = open_and_close(&mut host).is_ok();
-    let after = (opened, host.back().is_some(), host.opened_at());
+    let after = (opened, host.back().is_some(), host.opened_at);
     assert_eq!(rt; after, (true, true, Some(endpoint)));
     assert!(rt; open_and_close(&mut host).is_err());
     drop(host);
     let mut failing = MemHost::new(opened_with(alloc, idle_port(alloc)), true);
     let opened = open_and_close(&mut failing).is_ok();
-    assert_eq!(rt; (opened, failing.opened_at()), (false, None));
+    assert_eq!(rt; (opened, failing.opened_at), (false, None));
     drop(failing);
 }

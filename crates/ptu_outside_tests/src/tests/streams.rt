@@ -1,7 +1,7 @@
 ghost use Rattle.std.specs.Prelude.{◌≡◌, ◌++◌, IsTrue, ◌∷◌, [], Some, None, map, IfOk, if◌then◌else◌};
 ghost use Rattle.ptu_outside.specs.Handing.{Grows};
 
-use ptu_outside::{Failed, MemSink, MemSource, Sink, Source, StdSink, StdSource, write_whole};
+use ptu_outside::{Counted, Failed, MemSink, MemSource, Sink, Source, write_whole};
 use std::alloc::{AllocError, Global};
 use std::io;
 use std::io::{ErrorKind, Read, Write};
@@ -159,11 +159,11 @@ impl Write for Slow {
 
 #[test]
 fn an_interrupted_call_is_tried_again(rt: HostRuntime) {
-    let mut source = StdSource::new(Slow::until(2));
+    let mut source = Counted::new(Slow::until(2));
     let mut buf = [0; 4];
     let first = (source.read(&mut buf), buf[0]);
     assert_eq!(rt; (first, source.read(&mut buf)), ((Ok(1), 1), Err(Failed)));
-    let mut sink = StdSink::new(Slow::until(4));
+    let mut sink = Counted::new(Slow::until(4));
     let written = (write_whole(&mut sink, b"abc"), write_whole(&mut sink, b"d"));
     assert_eq!(rt; written, (Ok(()), Err(Failed)));
 }
@@ -174,6 +174,6 @@ fn a_writer_that_takes_nothing_of_a_piece_is_a_fault(rt: HostRuntime) {
         is_full: true,
         ..Slow::until(0)
     };
-    let mut sink = StdSink::new(full);
+    let mut sink = Counted::new(full);
     assert_eq!(rt; (sink.write(b""), sink.write(b"a")), (Ok(0), Err(Failed)));
 }

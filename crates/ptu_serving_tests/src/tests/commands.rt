@@ -78,7 +78,7 @@ fn spoken(alloc: Global, lines: &[&str]) -> Result<MemPort, Fail> {
 
 // The answer at this place, from 0, is this, or there is none.
 fn assert_answer(rt: &impl Abort, host: &MemHost, index: usize, text: Option<&str>) {
-    let sent = host.control_back().and_then(|port| port.sent(index));
+    let sent = host.control_back.as_ref().and_then(|port| port.sent(index));
     let expected = text.map(|text| (LOOPBACK, Channel::General, text.as_bytes()));
     assert!(rt; sent == expected, "answer {index} is another one");
 }
@@ -114,7 +114,7 @@ fn obey(rt: &(impl Abort + Threads + Wait + Sync), alloc: Global, lanes: u64) ->
     let mut host = host(alloc, &lines)?;
     let line = "rounds 7 sent 2 failed 0 granted 1 refused 0 held 0\n";
     assert_said(rt, alloc, &settings(rt, lanes), &mut host, line);
-    assert_eq!(rt; host.control_at(), Some(8319));
+    assert_eq!(rt; host.control_at, Some(8319));
     let status = "ok\nclass 84\ncapacity 8\nheld 8\nlive_announce 1\nlive_sync 0\n\
                   live_delay_resp 0\ngranted 1\nrefused 0\nsent 1\nfailed 0\nround 2\nmoment 0\n";
     assert_answer(rt, &host, 0, Some(status));
@@ -300,7 +300,7 @@ fn nobody_is_heard_without_a_control_port(rt: HostRuntime) -> Result<(), Fail> {
     };
     let line = "rounds 3 sent 1 failed 0 granted 1 refused 0 held 8\n";
     assert_said(&rt, alloc, &settings, &mut host, line);
-    assert!(rt; host.control_at().is_none() && host.control_back().is_none());
+    assert!(rt; host.control_at.is_none() && host.control_back.is_none());
     drop(host);
     Ok(())
 }

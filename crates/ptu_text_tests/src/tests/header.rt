@@ -1,5 +1,6 @@
 //! Headers that no stored run of the program shows as they are written, there and back.
 
+use ptu_messages::samples::DELAY_REQ;
 use ptu_messages::{Header, PortIdentity, read_header, write_header};
 use std::alloc::{AllocError, Global};
 use std::process::Abort;
@@ -26,42 +27,22 @@ const GREATEST: Header = Header {
     sequence: u16::MAX,
 };
 
-// Those of a Signaling and a Delay_Req of a client and of a Follow_Up of a grandmaster, in domain 4
-// with the unicastFlag alone.
+// Those of a Signaling of a client and of a Follow_Up of a grandmaster, in domain 4 with the
+// unicastFlag alone, as that of the Delay_Req.
 const SIGNALING: Header = Header {
     message_type: 12,
-    domain: 4,
-    flags: 0x0400,
-    correction: 0,
-    source: PortIdentity {
-        clock: 0x0a00_0000_0000_0011,
-        port: 1,
-    },
     sequence: 0,
-};
-
-const DELAY_REQ: Header = Header {
-    message_type: 1,
-    domain: 4,
-    flags: 0x0400,
-    correction: 0,
-    source: PortIdentity {
-        clock: 0x0a00_0000_0000_0011,
-        port: 1,
-    },
-    sequence: 7,
+    ..DELAY_REQ
 };
 
 const FOLLOW_UP: Header = Header {
     message_type: 8,
-    domain: 4,
-    flags: 0x0400,
-    correction: 0,
     source: PortIdentity {
         clock: 0x0a00_0000_0000_0001,
         port: 1,
     },
     sequence: 1,
+    ..DELAY_REQ
 };
 
 // The octets of the least header, of 34 octets, and of the greatest, of 65535.

@@ -1,12 +1,10 @@
 use Rattle.std.proofs.Common.{◌≡◌, ◌∙◌, ◌+◌, ◌-◌, ◌*◌, ◌≤◌, ◌++◌, ◌∷◌, [], ℕ, max, min, ap, arith, refl, rules, subst, sym}
 use Rattle.ptu_units.specs.{Client.{table_of}, Log.{rate_of}}
-use Rattle.ptu_history.specs.History.{Granted, capacity_in_force}
+use Rattle.ptu_history.specs.{History.{Granted, capacity_in_force}, Step.{verdict_records}}
 use Rattle.ptu_history.specs.{Moments.{book_moment}, Verdict.{GrantedFor, others, verdict}}
-use Rattle.ptu_history.specs.Step.{verdict_records}
 use Rattle.ptu_history.proofs.Verdicts.{verdict-granted, verdict-outside}
 use Rattle.ptu_admit.specs.{Lent.{StandFor, table_for}, Rows.{kept_rate}, Verdict.{ask_of, cause_of, config_of}}
-use Rattle.ptu_admit.proofs.Alone.{alone_one, alone_same}
-use Rattle.ptu_admit.proofs.Lending.{are_at, of_granted, taken}
+use Rattle.ptu_admit.proofs.{Alone.{alone_one, alone_same}, Lending.{are_at, of_granted, taken}}
 use Rattle.ptu_admit.proofs.Verdicts.{others-le, outside_stands}
 use Rattle.ptu_admit.proofs.asking.decide_one.Goals as goal
 
@@ -86,7 +84,6 @@ returns-clause-alone g c = λ history s.
     let n : ℕ = c.latest-at.result in
     let j : ℕ = table_of c.args.client.now in
     let le : c.args.shard.now.moment ≤ n = omega arith in
-    let before : book_moment history ≤ c.args.shard.now.moment = s.reached in
     let moment : c.grant.new.shard.moment ≡ n = c.grant.ensures.moments.0 in
     alone_one j n c.args.shard.now c.grant.new.shard history (Granted n c.args.client.now c.in-Ok.wanted.kind c.in-Ok.wanted.log c.grant.result.until) s le (omega (arith, moment)) refl refl (refl, le)
-    (c.grant.ensures.stands (book_moment history) j history s.stands refl (omega (arith, before, le)))
+    (c.grant.ensures.stands (book_moment history) j history s.stands refl (omega (arith, s.reached, le)))

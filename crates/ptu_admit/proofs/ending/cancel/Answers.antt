@@ -4,9 +4,8 @@ use Rattle.ptu_history.specs.{History.{Ended}, Moments.{book_moment}}
 use Rattle.ptu_shard.specs.Table.{StandsAt}
 use Rattle.ptu_shard.proofs.Turns.{live_kept}
 use Rattle.ptu_admit.specs.Lent.{table_for}
-use Rattle.ptu_admit.proofs.Alone.{alone_one}
+use Rattle.ptu_admit.proofs.{Alone.{alone_one}, Sums.{share_of-left, share_of-removed}}
 use Rattle.ptu_admit.proofs.{Lending.{are_at, of_ended, taken}, RowKeys.{has_live-swept}}
-use Rattle.ptu_admit.proofs.Sums.{share_of-left, share_of-removed}
 use Rattle.ptu_admit.proofs.ending.cancel.Goals as goal
 
 pub settle-requires-clause-fits : goal.settle-requires-clause-fits
@@ -61,8 +60,7 @@ returns-clause-alone g c = λ history s.
     let n : ℕ = c.latest-at.result in
     let j : ℕ = table_of c.args.client.now in
     let reached : c.args.shard.now.moment ≤ n = omega arith in
-    let before : book_moment history ≤ c.args.shard.now.moment = s.reached in
-    let top : max (book_moment history) n ≡ n = omega (arith, before, reached) in
+    let top : max (book_moment history) n ≡ n = omega (arith, s.reached, reached) in
     let after = history ++ Ended n c.args.client.now c.args.kind ∷ [] in
     let stands : StandsAt n j c.remove-ended.new.self.rows c.remove-ended.new.self.moment after =
     subst (λ m. StandsAt m j c.remove-ended.new.self.rows c.remove-ended.new.self.moment after) top

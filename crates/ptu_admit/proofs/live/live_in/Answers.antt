@@ -1,9 +1,8 @@
 use Rattle.std.proofs.Common.{rules, ◌≡◌, ◌<◌, ◌∙◌, ◌^◌, Some, sym, arith, slice_get}
 use Rattle.ptu_units.specs.declared.kind.Kind.TheVariants.{Announce, Sync, DelayResp}
-use Rattle.ptu_admit.proofs.Candidates.{got_within}
+use Rattle.ptu_admit.proofs.{Candidates.{got_within}, live.live_in.Goals.{in-Some, in_default}}
 use Rattle.ptu_admit.proofs.LiveRows.{kind_next, share_grow, share_next, share_within}
 use Rattle.ptu_admit.proofs.live.live_in.Goals as goal
-use Rattle.ptu_admit.proofs.live.live_in.Goals.{in-Some, in_default}
 
 pub with_row-live-requires-clause-room : goal.with_row-live-requires-clause-room
 with_row-live-requires-clause-room g c =

@@ -1,6 +1,5 @@
 use Rattle.std.proofs.Common.{take}
-use Rattle.ptu_admit.specs.Rows.{live_rows}
-use Rattle.ptu_admit.specs.LiveRows.{AreFew, HasMore, no_grants}
+use Rattle.ptu_admit.specs.{Rows.{live_rows}, LiveRows.{AreFew, HasMore, no_grants}}
 use Rattle.ptu_admit.proofs.live.live_in.Given as goal
 
 -- the rows so far are counted

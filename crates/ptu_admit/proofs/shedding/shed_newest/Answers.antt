@@ -3,12 +3,11 @@ use Rattle.std.specs.{Prelude.{is_ok, vec_capacity, vec_len}, List.{All}}
 use Rattle.std.specs.{List.Sorted.{IsPermutation}, Ordering.{is_lt}}
 use Rattle.std.proofs.lemmas.List.Sorted.{length_permutation}
 use Rattle.ptu_admit.specs.{Book.{KeptBook}, declared.shed_list.Shed.{Shed}}
-use Rattle.ptu_admit.specs.Lent.{Lent, four, shares}
+use Rattle.ptu_admit.specs.{Lent.{Lent, four, shares}, declared.newest.Found.{Found}}
 use Rattle.ptu_admit.specs.Newest.{AreListed, candidate_cmp, candidate_of}
 use Rattle.ptu_admit.proofs.Candidates.{NotAfter, first_of, listed_without}
 use Rattle.ptu_admit.proofs.ShedLoop.{SoFar, all_shed, four_distinct, listed_less, one_shed}
 use Rattle.ptu_admit.proofs.{ShedOrder.{IsPlaced, none_held}, Verdicts.{FourDistinct}}
-use Rattle.ptu_admit.specs.declared.newest.Found.{Found}
 use Rattle.ptu_admit.proofs.shedding.shed_newest.Goals as goal
 
 pub above-smaller-in-Some-find_row : goal.above-smaller-in-Some-find_row

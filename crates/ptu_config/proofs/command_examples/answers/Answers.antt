@@ -5,12 +5,4 @@ use Rattle.ptu_config.proofs.command_examples.answers.Goals as goal
 
 pub returns : goal.returns
 unfolding reply_text digits
-returns c = record {
-  done = refl;
-  shed = refl;
-  none_shed = refl;
-  words = refl;
-  class = refl;
-  capacity = refl;
-  status = refl;
-}
+returns c = record { kinds = refl; status = refl }

@@ -15,20 +15,20 @@ if_err_more F (Err e) f h = λ is. f h
 
 pub returns-clause-answer : goal.returns-clause-answer
 returns-clause-answer g c =
-    let said = said_by c.in_ok-back.closing in
-    let text_is = c.as_str.ensures.value ∙ c.in_ok-text.ensures in
+    let said = said_by c.in-Ok-serve_over.closing in
+    let text_is = c.as_str.ensures.value ∙ c.in-Ok-closing_text.ensures in
     let is : HasServed g.H.P.Port g.H.C.Clock c.args.settings.now (g.H.Host.opening c.args.host.now) (g.H.Host.back c.close_control.new.host)
     (g.H.Host.control c.args.host.now) (g.H.Host.control_back c.close_control.new.host) said = record {
       opened = c.in-Ok.opened;
-      closed = c.in_ok-back.back;
+      closed = c.in-Ok-serve_over.back;
       opens = c.in-Ok.ensures.opened;
       gives_back = search rules;
       control = c.in-Ok-open_control.control;
-      control' = c.in_ok-back.control;
+      control' = c.in-Ok-serve_over.control;
       speaks = search rules;
       speaks_back = c.close_control.ensures.back;
-      serves = c.in_ok-back.ensures.serves;
-      by_lanes = c.in_ok-back.ensures.by_lanes;
+      serves = c.in-Ok-serve_over.ensures.serves;
+      by_lanes = c.in-Ok-serve_over.ensures.by_lanes;
     } in
     record {
       served = on_ok_more c.put.result

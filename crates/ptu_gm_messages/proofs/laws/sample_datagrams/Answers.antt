@@ -1,12 +1,9 @@
 use Rattle.std.proofs.Common.{refl}
-use Rattle.ptu_messages.specs.HeaderReading.{header_in}
-use Rattle.ptu_messages.specs.TlvsReading.{tlv_in}
+use Rattle.ptu_messages.specs.{HeaderReading.{header_in}, TlvsReading.{tlv_in}, Sent.{octets_sent}}
 use Rattle.ptu_messages.specs.Reading.{tlvs_in, body_in, message_in}
-use Rattle.ptu_history.specs.History.{capacity_in_force, lease_records}
+use Rattle.ptu_history.specs.{History.{capacity_in_force, lease_records}, Core.{table_step_moment}}
 use Rattle.ptu_history.specs.Live.{standing, live_grants, last_decision}
 use Rattle.ptu_history.specs.{Moments.{book_moment, table_moment}, Verdict.{others, verdict}}
-use Rattle.ptu_history.specs.Core.{table_step_moment}
-use Rattle.ptu_messages.specs.Sent.{octets_sent}
 use Rattle.ptu_gm_messages.specs.{Items.{heard_in, items_in}, Deciding.{placed}}
 use Rattle.ptu_gm_messages.proofs.laws.sample_datagrams.Goals as goal
 

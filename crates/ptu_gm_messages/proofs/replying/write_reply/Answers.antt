@@ -1,6 +1,5 @@
 use Rattle.std.proofs.Common.{map, take, subst}
-use Rattle.ptu_messages.specs.declared.header.Header.{Header}
-use Rattle.ptu_messages.specs.Sent.{AlwaysSpells, signaling}
+use Rattle.ptu_messages.specs.{declared.header.Header.{Header}, Sent.{AlwaysSpells, signaling}}
 use Rattle.ptu_gm_messages.proofs.replying.write_reply.Goals as goal
 
 pub returns-clause-again : goal.returns-clause-again

@@ -1,6 +1,5 @@
-use Rattle.std.proofs.Common.{arith}
+use Rattle.std.proofs.{Common.{arith}, lemmas.List.{take_all}}
 use Rattle.std.specs.List.{flat_map}
-use Rattle.std.proofs.lemmas.List.{take_all}
 use Rattle.ptu_laws.proofs.Budget.{count-within}
 use Rattle.ptu_gm_messages.specs.Deciding.{opened_with}
 use Rattle.ptu_grandmaster.specs.Driven.{events_of}

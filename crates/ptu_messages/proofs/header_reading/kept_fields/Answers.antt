@@ -1,6 +1,5 @@
-use Rattle.std.proofs.Common.{◌∙◌, rules}
+use Rattle.std.proofs.{Common.{◌∙◌, rules}, lemmas.Int.{to_z-of_z}}
 use Rattle.std.specs.{Prelude.{slice_index}, Int.{w64}, Int.RustNames.{FitsSigned}}
-use Rattle.std.proofs.lemmas.Int.{to_z-of_z}
 use Rattle.ptu_messages.proofs.header_reading.kept_fields.Goals as goal
 
 pub returns : goal.returns

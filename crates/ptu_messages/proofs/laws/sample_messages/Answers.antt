@@ -1,6 +1,5 @@
 use Rattle.std.proofs.Common.{refl}
-use Rattle.ptu_messages.specs.HeaderReading.{header_in}
-use Rattle.ptu_messages.specs.TlvsReading.{tlv_in}
+use Rattle.ptu_messages.specs.{HeaderReading.{header_in}, TlvsReading.{tlv_in}}
 use Rattle.ptu_messages.specs.Reading.{tlvs_in, body_in, message_in}
 use Rattle.ptu_messages.proofs.laws.sample_messages.Goals as goal
 

@@ -1,7 +1,6 @@
-use Rattle.std.proofs.{Common.{inr}, lemmas.Result.{err_from_is_err_and}}
+use Rattle.std.proofs.{Common.{◌≤◌, inr, arith}, lemmas.Result.{err_from_is_err_and}}
 use Rattle.ptu_messages.specs.declared.fault.MessageFault.TheVariants as faults
 use Rattle.ptu_messages.specs.Message.{least_length}
-use Rattle.std.proofs.Common.{◌≤◌, arith}
 use Rattle.ptu_messages.proofs.Readings.{message_in-faulty, too_short, no_body, some_body}
 use Rattle.ptu_messages.proofs.reading.read.Goals as goal
 

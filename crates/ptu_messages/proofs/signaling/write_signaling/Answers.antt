@@ -1,6 +1,5 @@
 use Rattle.std.proofs.{Common.{List, take, subst}, lemmas.List.{map-id}}
-use Rattle.ptu_messages.specs.declared.tlv.Tlv.{Tlv}
-use Rattle.ptu_messages.specs.Sent.{signaling, AlwaysSpells}
+use Rattle.ptu_messages.specs.{declared.tlv.Tlv.{Tlv}, Sent.{signaling, AlwaysSpells}}
 use Rattle.ptu_messages.proofs.signaling.write_signaling.Goals as goal
 
 pub returns-clause-again : goal.returns-clause-again

@@ -1,6 +1,5 @@
-use Rattle.std.proofs.Common.{heap_items, rules}
+use Rattle.std.proofs.{Common.{heap_items, rules}, lemmas.Option.{MatchOption-at_some}}
 use Rattle.std.proofs.lemmas.List.Sorted.{IsPermutation-trans, IsPermutation-cons}
-use Rattle.std.proofs.lemmas.Option.{MatchOption-at_some}
 use Rattle.ptu_shard.proofs.Heap.{heap_by_code, heap_by_entry}
 use Rattle.ptu_shard.proofs.queue.replace_top.Goals as goal
 

@@ -1,5 +1,4 @@
-use Rattle.std.proofs.Common.{◌+◌, ◌∙◌, length, ap}
-use Rattle.std.proofs.lemmas.List.{length-map}
+use Rattle.std.proofs.{Common.{◌+◌, ◌∙◌, length, ap}, lemmas.List.{length-map}}
 use Rattle.ptu_history.specs.Events as events
 use Rattle.ptu_history.specs.Turns.{due_grants, message_of}
 use Rattle.ptu_shard.specs.{Messages.{departure_of}, Turn.{due_messages}}

@@ -1,8 +1,7 @@
 use Rattle.std.proofs.Common.{rules, ◌≡◌, ◌+◌, ◌++◌, ◌∙◌, ℕ, length, refl, ap, subst}
 use Rattle.std.proofs.lemmas.List.{length-map}
-use Rattle.ptu_history.specs.Core.{book_step_moment}
+use Rattle.ptu_history.specs.{Core.{book_step_moment}, Shedding.{shed_grants}, Step.{step}}
 use Rattle.ptu_history.specs.Events as events
-use Rattle.ptu_history.specs.{Shedding.{shed_grants}, Step.{step}}
 use Rattle.ptu_admit.specs.{Lent.{StandFor, four, lent_as}, Shed.{shed_of}}
 use Rattle.ptu_admit.proofs.StepMoments.{moment-all}
 use Rattle.ptu_gm_messages.specs.Deciding.{opened_with}

@@ -1,6 +1,5 @@
-use Rattle.std.proofs.Common.{◌≤◌, ◌+◌, length, refl, rules}
+use Rattle.std.proofs.{Common.{◌≤◌, ◌+◌, length, refl, rules}, lemmas.List.{length-map}}
 use Rattle.std.specs.Vec.{vec_capacity}
-use Rattle.std.proofs.lemmas.List.{length-map}
 use Rattle.ptu_outside.specs.MemoryPort.{slot_departure}
 use Rattle.ptu_outside.proofs.Slots.{octets_of-departures}
 use Rattle.ptu_outside.proofs.Sure.{first_fits, others_fit, unlisted}

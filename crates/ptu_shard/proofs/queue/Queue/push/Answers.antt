@@ -1,7 +1,6 @@
 use Rattle.std.proofs.Common.{◌<◌, arith, map, IsOk, heap_items, length}
-use Rattle.std.specs.BinaryHeap.{heap_capacity}
+use Rattle.std.specs.{BinaryHeap.{heap_capacity}, declared.cmp.Reverse.{Reverse}}
 use Rattle.std.proofs.lemmas.{List.{length-map}, List.Sorted.{IsPermutation-map}}
-use Rattle.std.specs.declared.cmp.Reverse.{Reverse}
 use Rattle.ptu_shard.specs.declared.queue.Entry.{Entry}
 use Rattle.ptu_shard.proofs.Heap.{heap_by_code, heap_by_entry, on_ok}
 use Rattle.ptu_shard.proofs.queue.Queue.push.Goals as goal

@@ -1,6 +1,5 @@
-use Rattle.std.proofs.Common.{◌<◌, arith, heap_items, length, map}
+use Rattle.std.proofs.{Common.{◌<◌, arith, heap_items, length, map}, lemmas.List.{length-map}}
 use Rattle.std.specs.declared.cmp.Reverse.{Reverse}
-use Rattle.std.proofs.lemmas.List.{length-map}
 use Rattle.ptu_shard.specs.declared.queue.Entry.{Entry}
 use Rattle.ptu_shard.proofs.Heap.{replaced}
 use Rattle.ptu_shard.proofs.queue.Queue.replace_first.Goals as goal

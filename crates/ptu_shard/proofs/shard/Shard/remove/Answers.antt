@@ -1,6 +1,8 @@
-use Rattle.std.proofs.{Common.{◌∙◌, sym, arith, refl}, lemmas.List.{length-map}}
-use Rattle.ptu_history.specs.History.{Ended, Shed}
-use Rattle.ptu_shard.specs.{Fields.{row_of, rows_of}, Row.{without_row}}
+use Rattle.std.proofs.{Common.{◌≡◌, ◌∙◌, ℕ, ◌≤◌, ℤ, List, [], ◌∷◌, ◌++◌, true, sym, arith, refl}, lemmas.List.{length-map}}
+use Rattle.std.specs.List.Sorted.{IsPermutation}
+use Rattle.ptu_units.specs.{declared.client.Client.{Client}, declared.kind.Kind.{Kind}, Client.{same_lease}}
+use Rattle.ptu_history.specs.History.{Record, Ended, Granted, Shed, concerns, is_decision, moment_of}
+use Rattle.ptu_shard.specs.{declared.lease.Row.{Row}, Fields.{row_of, rows_of}, Row.{without_row}, Table.{StandsAt}}
 use Rattle.ptu_shard.proofs.Keeping.{edges_fewer, ends_fewer, dropped_from}
 use Rattle.ptu_shard.proofs.{RowLists.{same_permuted}, Standing.{stands_ended, stands_same}}
 use Rattle.ptu_shard.proofs.shard.Shard.remove.Goals as goal
@@ -39,30 +41,26 @@ invariant_of-self-2 g c =
       end_room = omega (arith, inv.end_room, c.min-self-inside.ensures);
     }
 
+-- without the row of a client and kind the table stands for the history with the decision that ends its grant
+without : (r : Record) (c : Client) (k : Kind) → ((d : Client) (i : Kind) → concerns d i r ≡ same_lease d i c k) → is_decision r ≡ true →
+    ((n : ℕ) (d : Client) (i : Kind) (l : ℤ) (u : ℕ) → r ≡ Granted n d i l u → ⊥) → (book j moment : ℕ) (history : List Record) (old kept : List Row) →
+    StandsAt book j old moment history → moment_of r ≤ moment → IsPermutation (without_row c k old) kept → StandsAt book j kept moment (history ++ r ∷ [])
+without r c k concerned decided no_grant book j moment history old kept s reached rows =
+    stands_same book j moment (history ++ r ∷ []) (without_row c k old) kept (same_permuted (without_row c k old) kept rows)
+    (stands_ended book j moment history old s c k r concerned decided reached no_grant)
+
 pub returns-in_default-clause-ended : goal.returns-in_default-clause-ended
 returns-in_default-clause-ended g c = λ book j n history s reached.
-    let old = rows_of c.self.inside.rows.entries in
-    stands_same book j c.self.inside.moment _ (without_row c.args.client.now c.args.kind old) (rows_of c.drop_row.new.rows.entries) (same_permuted _ _ c.drop_row.ensures.rows)
-    (stands_ended book j c.self.inside.moment history old (rw (← c.self.view_is) at s) c.args.client.now c.args.kind (Ended n c.args.client.now c.args.kind)
-    (λ d i. refl) refl (rw (← c.self.view_is) at reached) (λ m d i l u e. cc))
+    without (Ended n c.args.client.now c.args.kind) c.args.client.now c.args.kind (λ d i. refl) refl (λ m d i l u e. cc) book j c.self.inside.moment history (rows_of c.self.inside.rows.entries) (rows_of c.drop_row.new.rows.entries) (rw (← c.self.view_is) at s) (rw (← c.self.view_is) at reached) c.drop_row.ensures.rows
 
 pub returns-in_default-clause-shed : goal.returns-in_default-clause-shed
 returns-in_default-clause-shed g c = λ book j n history s reached.
-    let old = rows_of c.self.inside.rows.entries in
-    stands_same book j c.self.inside.moment _ (without_row c.args.client.now c.args.kind old) (rows_of c.drop_row.new.rows.entries) (same_permuted _ _ c.drop_row.ensures.rows)
-    (stands_ended book j c.self.inside.moment history old (rw (← c.self.view_is) at s) c.args.client.now c.args.kind (Shed n c.args.client.now c.args.kind)
-    (λ d i. refl) refl (rw (← c.self.view_is) at reached) (λ m d i l u e. cc))
+    without (Shed n c.args.client.now c.args.kind) c.args.client.now c.args.kind (λ d i. refl) refl (λ m d i l u e. cc) book j c.self.inside.moment history (rows_of c.self.inside.rows.entries) (rows_of c.drop_row.new.rows.entries) (rw (← c.self.view_is) at s) (rw (← c.self.view_is) at reached) c.drop_row.ensures.rows
 
 pub returns-clause-ended : goal.returns-clause-ended
 returns-clause-ended g c = λ book j n history s reached.
-    let old = rows_of c.self.inside.rows.entries in
-    stands_same book j c.self.inside.moment _ (without_row c.args.client.now c.args.kind old) (rows_of c.drop_row.new.rows.entries) (same_permuted _ _ c.drop_row.ensures.rows)
-    (stands_ended book j c.self.inside.moment history old (rw (← c.self.view_is) at s) c.args.client.now c.args.kind (Ended n c.args.client.now c.args.kind)
-    (λ d i. refl) refl (rw (← c.self.view_is) at reached) (λ m d i l u e. cc))
+    without (Ended n c.args.client.now c.args.kind) c.args.client.now c.args.kind (λ d i. refl) refl (λ m d i l u e. cc) book j c.self.inside.moment history (rows_of c.self.inside.rows.entries) (rows_of c.drop_row.new.rows.entries) (rw (← c.self.view_is) at s) (rw (← c.self.view_is) at reached) c.drop_row.ensures.rows
 
 pub returns-clause-shed : goal.returns-clause-shed
 returns-clause-shed g c = λ book j n history s reached.
-    let old = rows_of c.self.inside.rows.entries in
-    stands_same book j c.self.inside.moment _ (without_row c.args.client.now c.args.kind old) (rows_of c.drop_row.new.rows.entries) (same_permuted _ _ c.drop_row.ensures.rows)
-    (stands_ended book j c.self.inside.moment history old (rw (← c.self.view_is) at s) c.args.client.now c.args.kind (Shed n c.args.client.now c.args.kind)
-    (λ d i. refl) refl (rw (← c.self.view_is) at reached) (λ m d i l u e. cc))
+    without (Shed n c.args.client.now c.args.kind) c.args.client.now c.args.kind (λ d i. refl) refl (λ m d i l u e. cc) book j c.self.inside.moment history (rows_of c.self.inside.rows.entries) (rows_of c.drop_row.new.rows.entries) (rw (← c.self.view_is) at s) (rw (← c.self.view_is) at reached) c.drop_row.ensures.rows

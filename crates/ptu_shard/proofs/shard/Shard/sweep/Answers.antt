@@ -1,6 +1,5 @@
-use Rattle.std.proofs.Common.{◌≡◌, arith, nat_lt, max}
+use Rattle.std.proofs.{Common.{◌≡◌, arith, nat_lt, max}, lemmas.List.{length-map}}
 use Rattle.std.specs.List.{filter}
-use Rattle.std.proofs.lemmas.List.{length-map}
 use Rattle.std.proofs.lemmas.List.Sorted.{Contains-permutation, IsPermutation-sym}
 use Rattle.ptu_history.proofs.Unique.{Contains-from_filter}
 use Rattle.ptu_shard.specs.{Fields.{row_of, rows_of}, declared.lease.Row.{Row}}
