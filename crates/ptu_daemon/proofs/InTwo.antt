@@ -165,31 +165,21 @@ module _ {P C : Type 0} (ports : Ports P) (clocks : Clocks C) (settings : GmSett
     control_flag = flag;
     served = h;
     in_pairs = λ senders before after is is' given told spoke still.
-        paired before after flags said given ((serves before after is is' senders).served given told spoke still);
-    by_lanes = λ senders before after is is'. below_either before after flags h.control h.control' said (either before after is is' senders);
+        paired before after flags said given ((at_ports (λ o c. Serves (two_steps ports) clocks settings o c h.control h.control' said) before after is is' (h.serves senders)).served given told spoke still);
+    by_lanes = λ senders before after is is'.
+        below_either before after flags h.control h.control' said (at_ports (λ o c. ServesEitherWay (two_steps ports) clocks settings o c h.control h.control' said) before after is is' (h.by_lanes senders));
   }
     where
-      either : (before after : Opened P C) → opening ≡ Some before → back ≡ Some after → 1 ≤ settings.senders →
-          ServesEitherWay (two_steps ports) clocks settings (flagged_by clear before) (flagged_by flags after) h.control h.control' said
-      either before after is is' senders =
+      -- what is so of the ports that the service had is so of those over these
+      at_ports : (F : Opened (InTwoSteps P) C → Opened (InTwoSteps P) C → Type 0) (before after : Opened P C) → opening ≡ Some before → back ≡ Some after →
+          F h.opened h.closed → F (flagged_by clear before) (flagged_by flags after)
+      at_ports F before after is is' holds =
           let opened_is : h.opened ≡ flagged_by clear before =
           subst (λ (o : Option (Opened P C)). IfSome (option_map (flagged_by clear) o) (λ told. h.opened ≡ told)) is h.opens in
           let given_back : Some h.closed ≡ Some (flagged_by flags after) =
           subst (λ (o : Option (Opened P C)). IfTold (option_map (flagged_by flags) o) (Some h.closed)) is' h.gives_back in
           let closed_is : h.closed ≡ flagged_by flags after = cc in
-          subst (λ o. ServesEitherWay (two_steps ports) clocks settings o (flagged_by flags after) h.control h.control' said) opened_is
-          (subst (λ c. ServesEitherWay (two_steps ports) clocks settings h.opened c h.control h.control' said) closed_is (h.by_lanes senders))
-
-      serves : (before after : Opened P C) → opening ≡ Some before → back ≡ Some after → settings.senders ≡ 0 →
-          Serves (two_steps ports) clocks settings (flagged_by clear before) (flagged_by flags after) h.control h.control' said
-      serves before after is is' senders =
-          let opened_is : h.opened ≡ flagged_by clear before =
-          subst (λ (o : Option (Opened P C)). IfSome (option_map (flagged_by clear) o) (λ told. h.opened ≡ told)) is h.opens in
-          let given_back : Some h.closed ≡ Some (flagged_by flags after) =
-          subst (λ (o : Option (Opened P C)). IfTold (option_map (flagged_by flags) o) (Some h.closed)) is' h.gives_back in
-          let closed_is : h.closed ≡ flagged_by flags after = cc in
-          subst (λ o. Serves (two_steps ports) clocks settings o (flagged_by flags after) h.control h.control' said) opened_is
-          (subst (λ c. Serves (two_steps ports) clocks settings h.opened c h.control h.control' said) closed_is (h.serves senders))
+          subst (λ o. F o (flagged_by flags after)) opened_is (subst (λ c. F h.opened c) closed_is holds)
 
 -- ---- of an answer
 
