@@ -11,7 +11,7 @@ use crate::closing::closing_text;
 use crate::daemon::Daemon;
 use ptu_config::GmSettings;
 use ptu_grandmaster::Gm;
-use ptu_lanes::{Ended, Totals, serve_lanes_within};
+use ptu_lanes::{Ended, Totals, serve_lanes};
 use ptu_messages::PortIdentity;
 use ptu_outside::{Clock, DaemonFault, Failed, Host, Opened, Port, Sink, write_whole};
 use ptu_profile::GmConfig;
@@ -53,7 +53,7 @@ fn serve_by_lanes<P: Port + Send, C: Clock + Send, W: Threads + Wait + Sync>(
         ServesEitherWay P.Port C.Clock settings.now opened r.0 control r.1 (said_by r.2)) }
 {
     let config = config(settings);
-    match serve_lanes_within(rt, alloc, threads, settings, &config, opened, control)? {
+    match serve_lanes(rt, alloc, threads, settings, &config, opened, control)? {
         Ended::Served(back, control, totals) => Ok((back, control, totals)),
         Ended::Refused(opened, control) => serve_rounds(alloc, settings, opened, control),
     }
