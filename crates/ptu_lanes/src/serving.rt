@@ -226,9 +226,9 @@ where
 /// Gives the ports and clocks back, with the last numbers.
 ///
 /// All threads are made before the first datagram is taken, at most so many beside this one. Where
-/// one more is wanted, or the system refuses one or wants memory for it, no lane serves: no datagram
-/// is taken or sent and no moment is taken of a clock, and the ports and clocks are given back as
-/// they were opened.
+/// one more is wanted, or the system refuses one or wants memory for it, no lane serves: nothing is
+/// taken or sent, no moment is taken of a clock, and the ports and clocks are given back as they
+/// were opened.
 ///
 /// # Errors
 /// `OutOfMemory`, after the round in which it came, with the ports and clocks dropped.
