@@ -22,7 +22,7 @@ use Rattle.ptu_daemon.specs.Commands.{DoneRound, HaveHappened, answers_from, don
 use Rattle.ptu_daemon.specs.Events.{Happening, change_in, change_to, config_of, round_with, taking, turns}
 use Rattle.ptu_daemon.specs.{Lawful.{history_by}, Sends.{Standing, after_all, class_after, class_by}}
 use Rattle.ptu_daemon.specs.{Served.{held_by}, Serving.{AreUnspoken}}
-use Rattle.ptu_daemon.proofs.{Commands.{events_of-push}, Running.{class_more}}
+use Rattle.ptu_daemon.proofs.{Commands.{events_of-push}, Halves.{all_both}, Running.{class_more}}
 
 -- ---- another key
 
@@ -49,10 +49,6 @@ class_kept (x ∷ xs) [] class h k = absurd k
 class_kept (x ∷ xs) (e ∷ es) class (one, h) ((t, is), k) =
     ap (λ c. class_after c es) (ap (class_by class) is ∙ one class t) ∙ class_kept xs es class h k
 
-both_all : (xs ys : List Happening) → AllByRecursion NoClass xs → AllByRecursion NoClass ys → AllByRecursion NoClass (xs ++ ys)
-both_all [] ys h k = k
-both_all (x ∷ xs) ys (one, h) k = (one, both_all xs ys h k)
-
 change_no_class : (b : Bool) (new : Option ℕ) → AllByRecursion NoClass (change_to b new)
 change_no_class true (Some capacity) = ((λ class t. refl), tt)
 change_no_class true None = tt
@@ -64,8 +60,8 @@ taking_no_class (a ∷ arrivals) = ((λ class t. refl), taking_no_class arrivals
 
 round_no_class : (settings : GmSettings) (before : ℕ) (round : Round) → AllByRecursion NoClass (round_with settings before round)
 round_no_class settings before round =
-    both_all (change_in settings before ++ map taking (round.general ++ round.event)) turns
-    (both_all (change_in settings before) (map taking (round.general ++ round.event)) (change_no_class (settings.change_round == before + 1) settings.new_capacity)
+    all_both NoClass (change_in settings before ++ map taking (round.general ++ round.event)) turns
+    (all_both NoClass (change_in settings before) (map taking (round.general ++ round.event)) (change_no_class (settings.change_round == before + 1) settings.new_capacity)
     (taking_no_class (round.general ++ round.event)))
     ((λ class t. refl), ((λ class t. refl), ((λ class t. refl), ((λ class t. refl), tt))))
 

@@ -25,7 +25,7 @@ use Rattle.ptu_daemon.specs.Ran.{AllHandled, Handled, standing_as}
 use Rattle.ptu_daemon.specs.Sends.{after_all, sends_by}
 use Rattle.ptu_daemon.specs.Served.{Said, opened_as, served_by, served_history, served_said}
 use Rattle.ptu_daemon.specs.Serving.{AreServed, AreUnspoken, Happened, IsGiven, Serves, many_by}
-use Rattle.ptu_daemon.proofs.{Commands.{many_done, rounds_are}, Handling.{five_each, handled_all, many_of}, Lawful.{is_lawful}, Running.{after_all-history}, Unspoken.{are_alone, nothing_given}}
+use Rattle.ptu_daemon.proofs.{Commands.{many_done, rounds_are}, Handling.{five_each, handled_all, lengths_from, many_of}, Lawful.{is_lawful}, Running.{after_all-history}, Unspoken.{are_alone, nothing_given}}
 
 -- ---- what is told
 
@@ -114,70 +114,37 @@ module _ {P C : Type 0} (ports : Ports P) (clocks : Clocks C) where
     pub tells4 : GoesOn ports old.reply new.reply (sends 4)
     pub many : sent ≡ length (sends 0) + length (sends 1) + length (sends 2) + length (sends 3) + length (sends 4)
 
+  all_sent : (sends : ℕ → List Departure) (i s f m : ℕ) (olds news : List P) (a b : P) → AllHandled ports sends i s f m olds news →
+      HaveNotRisen (map ports.faults (olds ++ a ∷ [])) (map ports.faults (news ++ b ∷ [])) → s ≡ lengths_from sends i olds
+  all_sent sends i s f m [] [] a b h still = h.0
+  all_sent sends i s f m [] (q ∷ news) a b h still = absurd h
+  all_sent sends i s f m (p ∷ olds) [] a b h still = absurd h
+  all_sent sends i s f m (p ∷ olds) (q ∷ news) a b (s1, f1, m1, s2, f2, m2, e, e', e'', h, hs) (still, stills) =
+      let first : s1 ≡ length (sends i) = handled_all ports p q (sends i) s1 f1 m1 h still in
+      let rest : s2 ≡ lengths_from sends (i + 1) olds = all_sent sends (i + 1) s2 f2 m2 olds news a b hs stills in
+      let sum : s ≡ length (sends i) + lengths_from sends (i + 1) olds = omega (arith, e, first, rest) in sum
+
   sent_by_five : (sends : ℕ → List Departure) (s f m : ℕ) (old new : KeptGm P) (a b : P) → AllHandled ports sends 0 s f m (five_ports old) (five_ports new) →
       HaveNotRisen (map ports.faults (five_ports old ++ a ∷ [])) (map ports.faults (five_ports new ++ b ∷ [])) → SentByFive sends old new s
-  sent_by_five sends s f m old new a b (
-    s0,
-    f0,
-    m0,
-    t0,
-    g0,
-    n0,
-    d0,
-    e0,
-    c0,
-    h0,
-    (
-      s1,
-      f1,
-      m1,
-      t1,
-      g1,
-      n1,
-      d1,
-      e1,
-      c1,
-      h1,
-      (
-        s2,
-        f2,
-        m2,
-        t2,
-        g2,
-        n2,
-        d2,
-        e2,
-        c2,
-        h2,
-        (s3, f3, m3, t3, g3, n3, d3, e3, c3, h3, (s4, f4, m4, t4, g4, n4, d4, e4, c4, h4, (d5, e5, c5))),
-      ),
-    ),
-  )
-      (r0, (r1, (r2, (r3, (r4, r5))))) = record {
-        p0 = h0.all r0;
-        p1 = h1.all r1;
-        p2 = h2.all r2;
-        p3 = h3.all r3;
-        p4 = h4.all r4;
-        tells0 = h0.goes_on (none_failed f0 _ _ h0.risen r0);
-        tells1 = h1.goes_on (none_failed f1 _ _ h1.risen r1);
-        tells2 = h2.goes_on (none_failed f2 _ _ h2.risen r2);
-        tells3 = h3.goes_on (none_failed f3 _ _ h3.risen r3);
-        tells4 = h4.goes_on (none_failed f4 _ _ h4.risen r4);
-        many = omega (
-          arith,
-          d0,
-          d1,
-          d2,
-          d3,
-          d4,
-          d5,
-          handled_all ports _ _ _ s0 f0 m0 h0 r0,
-          handled_all ports _ _ _ s1 f1 m1 h1 r1,
-          handled_all ports _ _ _ s2 f2 m2 h2 r2,
-          handled_all ports _ _ _ s3 f3 m3 h3 r3,
-          handled_all ports _ _ _ s4 f4 m4 h4 r4,
-        );
+  sent_by_five sends s f m old new a b handled still = by (handed_of sends 0 s f m (five_ports old) (five_ports new) handled) still
+    where
+      sum : s ≡ length (sends 0) + (length (sends 1) + (length (sends 2) + (length (sends 3) + (length (sends 4) + 0))))
+      sum = all_sent sends 0 s f m (five_ports old) (five_ports new) a b handled still
+
+      by : WereHanded ports sends 0 s (five_ports old) (five_ports new) → HaveNotRisen (map ports.faults (five_ports old ++ a ∷ [])) (map ports.faults (five_ports new ++ b ∷ [])) →
+          SentByFive sends old new s
+      by (s0, t0, d0, h0, (s1, t1, d1, h1, (s2, t2, d2, h2, (s3, t3, d3, h3, (s4, t4, d4, h4, d5))))) (r0, (r1, (r2, (r3, (r4, r5))))) = record {
+        p0 = h0.part.all r0;
+        p1 = h1.part.all r1;
+        p2 = h2.part.all r2;
+        p3 = h3.part.all r3;
+        p4 = h4.part.all r4;
+        tells0 = h0.goes_on r0;
+        tells1 = h1.goes_on r1;
+        tells2 = h2.goes_on r2;
+        tells3 = h3.goes_on r3;
+        tells4 = h4.goes_on r4;
+        many = omega (arith, sum);
       }
 
   -- ---- all of it

@@ -39,6 +39,20 @@ use Rattle.ptu_daemon.specs.{Pairs.{step_at}, Steps.{has_two_steps, step_by, ste
 use Rattle.ptu_daemon.specs.declared.step.Step.TheVariants.{OneStepSync, TwoStepSync, FollowUp, Other}
 use Rattle.ptu_daemon.specs.Telling.{is_half}
 
+-- ---- lists
+
+-- what is so of all in two lists is so of all in them together, and of some of one list
+pub all_both : {A : Type 0} (F : A → Type 0) (xs ys : List A) → AllByRecursion F xs → AllByRecursion F ys → AllByRecursion F (xs ++ ys)
+all_both F [] ys a b = b
+all_both F (x ∷ xs) ys a b = (a.0, all_both F xs ys a.1 b)
+
+pub all_some : {A : Type 0} (F : A → Type 0) (which : List Bool) (xs : List A) → AllByRecursion F xs → AllByRecursion F (items_where_true which xs)
+all_some F [] [] all = tt
+all_some F [] (x ∷ xs) all = tt
+all_some F (w ∷ which) [] all = tt
+all_some F (true ∷ which) (x ∷ xs) all = (all.0, all_some F which xs all.1)
+all_some F (false ∷ which) (x ∷ xs) all = all_some F which xs all.1
+
 -- ---- octets
 
 general_read : (octets : List ℕ) (r : Result (Header × ℕ) HeaderFault) → header_in octets ≡ r → low_nibble_at octets 0 ≢ 8
@@ -133,14 +147,21 @@ other_signaling config ip target sequence tlvs =
 abbrev pub AreWhole : List Departure → Type 0
 AreWhole datagrams = AllByRecursion (λ d. is_half (step_at d) ≡ false) datagrams
 
-pub whole_both : (xs ys : List Departure) → AreWhole xs → AreWhole ys → AreWhole (xs ++ ys)
-whole_both [] ys a b = b
-whole_both (x ∷ xs) ys a b = (a.0, whole_both xs ys a.1 b)
+-- replies and CANCELs are sent in two steps as they are
+abbrev pub AreOther : List Departure → Type 0
+AreOther datagrams = AllByRecursion (λ d. step_at d ≡ Other) datagrams
+
+pub other_whole : (ds : List Departure) → AreOther ds → AreWhole ds
+other_whole [] other = tt
+other_whole (d ∷ ds) other = (ap is_half other.0, other_whole ds other.1)
+
+other_cancels : (config : GmConfig) (before : ℕ) (leases : List (Client × Kind)) → AreOther (cancels_to config before leases)
+other_cancels config before [] = tt
+other_cancels config before (lease ∷ leases) =
+    (other_signaling config lease.0.ip (identity_of lease.0) (before % 65536) (Cancel (code_of lease.1) ∷ []), other_cancels config (before + 1) leases)
 
 pub whole_cancels : (config : GmConfig) (before : ℕ) (leases : List (Client × Kind)) → AreWhole (cancels_to config before leases)
-whole_cancels config before [] = tt
-whole_cancels config before (lease ∷ leases) =
-    (whole_signaling config lease.0.ip (identity_of lease.0) (before % 65536) (Cancel (code_of lease.1) ∷ []), whole_cancels config (before + 1) leases)
+whole_cancels config before leases = other_whole (cancels_to config before leases) (other_cancels config before leases)
 
 whole_turns : (config : GmConfig) (past : List Record) (x : ℕ) (grants : List live.Grant) →
     AreWhole (map (λ g. departure_of config x (message_of past g)) grants)
@@ -150,14 +171,6 @@ whole_turns config past x (g ∷ grants) = (whole_turned config x (message_of pa
 whole_if_by : (b : Bool) (xs : List Departure) → AreWhole xs → AreWhole (cond b xs [])
 whole_if_by true xs h = h
 whole_if_by false xs h = tt
-
--- of a list of messages, some are no halves where none is
-pub whole_some : (which : List Bool) (ds : List Departure) → AreWhole ds → AreWhole (items_where_true which ds)
-whole_some [] [] whole = tt
-whole_some [] (d ∷ ds) whole = tt
-whole_some (w ∷ which) [] whole = tt
-whole_some (true ∷ which) (d ∷ ds) whole = (whole.0, whole_some which ds whole.1)
-whole_some (false ∷ which) (d ∷ ds) whole = whole_some which ds whole.1
 
 whole_responses : (answer : Answer) (d : Departure) → is_half (step_at d) ≡ false → AreWhole (responses answer d)
 whole_responses events.Answered d h = (h, tt)
@@ -194,21 +207,7 @@ whole_event gm i (Capacity t capacity) =
 pub whole_sends : (gm : Standing) (i : ℕ) (events : List GmEvent) → AreWhole (sends_by gm i events)
 unfolding sends_by
 whole_sends gm i [] = tt
-whole_sends gm i (event ∷ later) = whole_both (event_sends gm i event) _ (whole_event gm i event) (whole_sends (standing_after gm event) i later)
-
-whole_if_any : (config : GmConfig) (from : ℕ) (header : Header) (answers : List Tlv) → AreWhole (reply_if_any config from header answers)
-whole_if_any config from header [] = tt
-whole_if_any config from header (answer ∷ answers) = (whole_signaling config from header.source header.sequence (answer ∷ answers), tt)
-
-whole_with : (config : GmConfig) (from : ℕ) (h : Result Heard GmReason) (answers : List Tlv) → AreWhole (reply_with config from h answers)
-whole_with config from (Ok (heard.Asks header items)) answers = whole_if_any config from header answers
-whole_with config from (Ok (heard.DelayReq header)) answers = tt
-whole_with config from (Err reason) answers = tt
-
-pub whole_replies : (config : GmConfig) (exchanges : List Exchange) → AreWhole (replies config exchanges)
-whole_replies config [] = tt
-whole_replies config (exchange ∷ exchanges) =
-    whole_both (reply_in config exchange) _ (whole_with config _ (heard_in config exchange.datagram.bytes) (answers_of exchange)) (whole_replies config exchanges)
+whole_sends gm i (event ∷ later) = all_both (λ d. is_half (step_at d) ≡ false) (event_sends gm i event) (sends_by (standing_after gm event) i later) (whole_event gm i event) (whole_sends (standing_after gm event) i later)
 
 -- ---- the messages of a table's history
 
@@ -229,19 +228,7 @@ module _ (told : Bool) (config : GmConfig) where
   whole_messages before (Sent x c k ∷ rest) ds (first, others, is, message, later) =
       subst AreWhole (sym is) (whole_of before x c k first message, whole_messages (before ++ Sent x c k ∷ []) rest others later)
 
--- ---- replies and CANCELs are sent in two steps as they are
-
-abbrev pub AreOther : List Departure → Type 0
-AreOther datagrams = AllByRecursion (λ d. step_at d ≡ Other) datagrams
-
-other_both : (xs ys : List Departure) → AreOther xs → AreOther ys → AreOther (xs ++ ys)
-other_both [] ys a b = b
-other_both (x ∷ xs) ys a b = (a.0, other_both xs ys a.1 b)
-
-other_cancels : (config : GmConfig) (before : ℕ) (leases : List (Client × Kind)) → AreOther (cancels_to config before leases)
-other_cancels config before [] = tt
-other_cancels config before (lease ∷ leases) =
-    (other_signaling config lease.0.ip (identity_of lease.0) (before % 65536) (Cancel (code_of lease.1) ∷ []), other_cancels config (before + 1) leases)
+-- ---- replies
 
 other_if_any : (config : GmConfig) (from : ℕ) (header : Header) (answers : List Tlv) → AreOther (reply_if_any config from header answers)
 other_if_any config from header [] = tt
@@ -255,14 +242,17 @@ other_with config from (Err reason) answers = tt
 other_replies : (config : GmConfig) (exchanges : List Exchange) → AreOther (replies config exchanges)
 other_replies config [] = tt
 other_replies config (exchange ∷ exchanges) =
-    other_both (reply_in config exchange) _ (other_with config _ (heard_in config exchange.datagram.bytes) (answers_of exchange)) (other_replies config exchanges)
+    all_both (λ d. step_at d ≡ Other) (reply_in config exchange) (replies config exchanges) (other_with config _ (heard_in config exchange.datagram.bytes) (answers_of exchange)) (other_replies config exchanges)
+
+pub whole_replies : (config : GmConfig) (exchanges : List Exchange) → AreWhole (replies config exchanges)
+whole_replies config exchanges = other_whole (replies config exchanges) (other_replies config exchanges)
 
 pub other_rounds : (settings : GmSettings) (config : GmConfig) (at : LaneAt) (rounds : List LaneRound) → AreOther (lane_sends settings config at rounds)
 unfolding lane_sends
 other_rounds settings config at [] = tt
 other_rounds settings config at (r ∷ later) =
-    other_both (round_sends config at r) (lane_sends settings config (at_next settings at r) later)
-    (other_both (cancels_to config at.sequence r.changed ++ replies config r.exchanges) (cancels_to config (sequence_on at.sequence r.changed) r.shed)
-    (other_both (cancels_to config at.sequence r.changed) (replies config r.exchanges) (other_cancels config at.sequence r.changed) (other_replies config r.exchanges))
+    all_both (λ d. step_at d ≡ Other) (round_sends config at r) (lane_sends settings config (at_next settings at r) later)
+    (all_both (λ d. step_at d ≡ Other) (cancels_to config at.sequence r.changed ++ replies config r.exchanges) (cancels_to config (sequence_on at.sequence r.changed) r.shed)
+    (all_both (λ d. step_at d ≡ Other) (cancels_to config at.sequence r.changed) (replies config r.exchanges) (other_cancels config at.sequence r.changed) (other_replies config r.exchanges))
     (other_cancels config (sequence_on at.sequence r.changed) r.shed))
     (other_rounds settings config (at_next settings at r) later)

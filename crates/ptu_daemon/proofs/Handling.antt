@@ -23,6 +23,11 @@ pub many_of : (old new : Option (List Departure)) (sends : List Departure) (sent
 many_of old new sends sent some =
     subst (λ n. IfTold (option_map length new) (option_map (λ list. length list + n) old)) some.many (many_told old new (items_where_true some.which sends) some.told)
 
+-- how many datagrams these are for as many ports, the first of which has the index
+abbrev pub lengths_from : {P : Type 0} → (ℕ → List Departure) → ℕ → List P → ℕ
+lengths_from sends i [] = 0
+lengths_from sends i (p ∷ ps) = length (sends i) + lengths_from sends (i + 1) ps
+
 -- ---- one port
 
 module _ {P : Type 0} (ports : Ports P) where
@@ -187,44 +192,20 @@ module _ {P : Type 0} (ports : Ports P) where
     ),
   )
 
+  all_each : (sends : ℕ → List Departure) (i s f m : ℕ) (olds news : List P) → AllHandled ports sends i s f m olds news → s + f ≡ lengths_from sends i olds + m
+  all_each sends i s f m [] [] h =
+      let none : s ≡ 0 = h.0 in let none_failed : f ≡ 0 = h.1 in let none_missed : m ≡ 0 = h.2 in
+      let sum : s + f ≡ 0 + m = omega arith in sum
+  all_each sends i s f m [] (p ∷ news) h = absurd h
+  all_each sends i s f m (p ∷ olds) [] h = absurd h
+  all_each sends i s f m (p ∷ olds) (q ∷ news) (s1, f1, m1, s2, f2, m2, e, e', e'', h, hs) =
+      let rest : s2 + f2 ≡ lengths_from sends (i + 1) olds + m2 = all_each sends (i + 1) s2 f2 m2 olds news hs in
+      let sum : s + f ≡ length (sends i) + lengths_from sends (i + 1) olds + m = omega (arith, e, e', e'', h.each, rest) in sum
+
   -- all sends and failures of the five
   pub five_each : (sends : ℕ → List Departure) (old new : KeptGm P) (sent failed missed : ℕ) → AllHandled ports sends 0 sent failed missed (five_ports old) (five_ports new) →
       sent + failed ≡ length (sends 0) + length (sends 1) + length (sends 2) + length (sends 3) + length (sends 4) + missed
-  five_each sends old new sent failed missed (
-    s0,
-    f0,
-    m0,
-    t0,
-    g0,
-    n0,
-    d0,
-    e0,
-    c0,
-    h0,
-    (
-      s1,
-      f1,
-      m1,
-      t1,
-      g1,
-      n1,
-      d1,
-      e1,
-      c1,
-      h1,
-      (
-        s2,
-        f2,
-        m2,
-        t2,
-        g2,
-        n2,
-        d2,
-        e2,
-        c2,
-        h2,
-        (s3, f3, m3, t3, g3, n3, d3, e3, c3, h3, (s4, f4, m4, t4, g4, n4, d4, e4, c4, h4, (d5, e5, c5))),
-      ),
-    ),
-  ) =
-      omega (arith, d0, e0, c0, d1, e1, c1, d2, e2, c2, d3, e3, c3, d4, e4, c4, d5, e5, c5, h0.each, h1.each, h2.each, h3.each, h4.each)
+  five_each sends old new sent failed missed h =
+      let sum : sent + failed ≡ length (sends 0) + (length (sends 1) + (length (sends 2) + (length (sends 3) + (length (sends 4) + 0)))) + missed =
+      all_each sends 0 sent failed missed (five_ports old) (five_ports new) h in
+      omega (arith, sum)

@@ -19,7 +19,7 @@ use Rattle.ptu_daemon.specs.{Answers.{HasAnswered}, Commands.{IsSpoken, served_e
 use Rattle.ptu_daemon.specs.Served.{Said, closing_line, numbers_in, opened_as, served_by}
 use Rattle.ptu_daemon.specs.Serving.{AreServed, HasServed, IsGiven, Serves, ServesEitherWay}
 use Rattle.ptu_daemon.specs.ServingInTwo.{AnswersBelow, ArePairsBelow, AreSentBelow, AreSentInPairs, HasServedInTwo, IsSentInPairs, SendsBelow, ServesInPairs}
-use Rattle.ptu_daemon.proofs.Halves.{AreOther, AreWhole, other_rounds, whole_messages, whole_sends, whole_some}
+use Rattle.ptu_daemon.proofs.Halves.{AreOther, AreWhole, all_some, other_rounds, other_whole, whole_messages, whole_sends}
 
 -- ---- datagrams at which a port may cease
 
@@ -45,17 +45,6 @@ none_in_two ceases (d ∷ ds) whole none = (
 pairs_same : (ds : List Departure) → AreOther ds → pairs ds ≡ ds
 pairs_same [] other = refl
 pairs_same (d ∷ ds) other = ap (λ s. pair_by s d ++ pairs ds) other.0 ∙ ap (λ l. d ∷ l) (pairs_same ds other.1)
-
-other_whole : (ds : List Departure) → AreOther ds → AllByRecursion (λ d. is_half (step_at d) ≡ false) ds
-other_whole [] other = tt
-other_whole (d ∷ ds) other = (ap is_half other.0, other_whole ds other.1)
-
-other_some : (which : List Bool) (ds : List Departure) → AreOther ds → AreOther (items_where_true which ds)
-other_some [] [] other = tt
-other_some [] (d ∷ ds) other = tt
-other_some (w ∷ which) [] other = tt
-other_some (true ∷ which) (d ∷ ds) other = (other.0, other_some which ds other.1)
-other_some (false ∷ which) (d ∷ ds) other = other_some which ds other.1
 
 is_told : (now told : Option (List Departure)) → now ≡ told → IfTold now told
 is_told None told is = tt
@@ -100,7 +89,7 @@ module _ {P C : Type 0} (ports : Ports P) (clocks : Clocks C) (settings : GmSett
         some = λ tells.
             let told = some_told (told_by flag (ports.sent after)) tells in
             let items = items_where_true h.part.some.which ds in
-            let others : AreOther items = other_some h.part.some.which ds other in
+            let others : AreOther items = all_some (λ d. step_at d ≡ Other) h.part.some.which ds other in
             record {
               which = h.part.some.which;
               each = h.part.some.each;
@@ -133,7 +122,7 @@ module _ {P C : Type 0} (ports : Ports P) (clocks : Clocks C) (settings : GmSett
         some = λ tells.
             let told = some_told (told_by flag (ports.sent after)) tells in
             grown-pairs (ports.sent before) (ports.sent after) false flag (items_where_true s.part.some.which s.messages) told.0
-            (whole_some s.part.some.which s.messages whole) told.1 s.part.some.told;
+            (all_some (λ d. is_half (step_at d) ≡ false) s.part.some.which s.messages whole) told.1 s.part.some.told;
       }
 
   sends_below : (before after : Opened P C) (flags : Flags) (control control' : Option (InTwoSteps P)) (said : Said) →
@@ -165,31 +154,21 @@ module _ {P C : Type 0} (ports : Ports P) (clocks : Clocks C) (settings : GmSett
     control_flag = flag;
     served = h;
     in_pairs = λ senders before after is is' given told spoke still.
-        paired before after flags said given ((serves before after is is' senders).served given told spoke still);
-    by_lanes = λ senders before after is is'. below_either before after flags h.control h.control' said (either before after is is' senders);
+        paired before after flags said given ((at_ports (λ o c. Serves (two_steps ports) clocks settings o c h.control h.control' said) before after is is' (h.serves senders)).served given told spoke still);
+    by_lanes = λ senders before after is is'.
+        below_either before after flags h.control h.control' said (at_ports (λ o c. ServesEitherWay (two_steps ports) clocks settings o c h.control h.control' said) before after is is' (h.by_lanes senders));
   }
     where
-      either : (before after : Opened P C) → opening ≡ Some before → back ≡ Some after → 1 ≤ settings.senders →
-          ServesEitherWay (two_steps ports) clocks settings (flagged_by clear before) (flagged_by flags after) h.control h.control' said
-      either before after is is' senders =
+      -- what is so of the ports that the service had is so of those over these
+      at_ports : (F : Opened (InTwoSteps P) C → Opened (InTwoSteps P) C → Type 0) (before after : Opened P C) → opening ≡ Some before → back ≡ Some after →
+          F h.opened h.closed → F (flagged_by clear before) (flagged_by flags after)
+      at_ports F before after is is' holds =
           let opened_is : h.opened ≡ flagged_by clear before =
           subst (λ (o : Option (Opened P C)). IfSome (option_map (flagged_by clear) o) (λ told. h.opened ≡ told)) is h.opens in
           let given_back : Some h.closed ≡ Some (flagged_by flags after) =
           subst (λ (o : Option (Opened P C)). IfTold (option_map (flagged_by flags) o) (Some h.closed)) is' h.gives_back in
           let closed_is : h.closed ≡ flagged_by flags after = cc in
-          subst (λ o. ServesEitherWay (two_steps ports) clocks settings o (flagged_by flags after) h.control h.control' said) opened_is
-          (subst (λ c. ServesEitherWay (two_steps ports) clocks settings h.opened c h.control h.control' said) closed_is (h.by_lanes senders))
-
-      serves : (before after : Opened P C) → opening ≡ Some before → back ≡ Some after → settings.senders ≡ 0 →
-          Serves (two_steps ports) clocks settings (flagged_by clear before) (flagged_by flags after) h.control h.control' said
-      serves before after is is' senders =
-          let opened_is : h.opened ≡ flagged_by clear before =
-          subst (λ (o : Option (Opened P C)). IfSome (option_map (flagged_by clear) o) (λ told. h.opened ≡ told)) is h.opens in
-          let given_back : Some h.closed ≡ Some (flagged_by flags after) =
-          subst (λ (o : Option (Opened P C)). IfTold (option_map (flagged_by flags) o) (Some h.closed)) is' h.gives_back in
-          let closed_is : h.closed ≡ flagged_by flags after = cc in
-          subst (λ o. Serves (two_steps ports) clocks settings o (flagged_by flags after) h.control h.control' said) opened_is
-          (subst (λ c. Serves (two_steps ports) clocks settings h.opened c h.control h.control' said) closed_is (h.serves senders))
+          subst (λ o. F o (flagged_by flags after)) opened_is (subst (λ c. F h.opened c) closed_is holds)
 
 -- ---- of an answer
 

@@ -5,9 +5,8 @@ use Rattle.ptu_history.specs.{Core.{book_step_moment}, Counts.{counts}, History.
 use Rattle.ptu_history.specs.Verdict.{table_rates}
 use Rattle.ptu_grandmaster.specs.Driven.{driven_history}
 use Rattle.ptu_units.specs.Counts.{counted}
-use Rattle.ptu_lanes.specs.Served.{Numbers}
+use Rattle.ptu_lanes.specs.{declared.serving.Totals.{Totals}, Served.{Numbers}}
 use Rattle.ptu_config.specs.declared.settings.GmSettings.{GmSettings}
-use Rattle.ptu_daemon.specs.declared.closing.Closing.{Closing}
 use Rattle.ptu_daemon.specs.{Commands.{rounds_done, served_events}, Events.{Given, config_of}, Sends.{Standing, sends_by}}
 
 -- the numbers of the last line: how many rounds were done, how many sends succeeded, how many sends and receives failed, how many asks were granted and
@@ -65,7 +64,7 @@ abbrev pub numbers_in : Said → Numbers
 numbers_in said = record { sent = said.sent; failed = said.failed; granted = said.granted; refused = said.refused; held = said.held }
 
 -- the numbers of a closing line
-abbrev pub said_by : Closing → Said
+abbrev pub said_by : Totals → Said
 said_by closing = record {
   rounds = closing.rounds;
   sent = closing.sent;

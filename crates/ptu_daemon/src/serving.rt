@@ -4,15 +4,14 @@ ghost use Rattle.std.specs.Prelude.{◌≡◌, ◌≤◌, ◌∷◌, [], None, S
 ghost use Rattle.ptu_outside.specs.{Faults.{HasRisen}, Handing.{HasPut, HasPutFront}};
 ghost use Rattle.ptu_outside.specs.Telling.{IfTold};
 ghost use Rattle.ptu_config.specs.{Limits.{IsGmInRange}, Rounds.{all_rounds}};
-ghost use Rattle.ptu_lanes.specs.Served.{numbers_of};
 ghost use Rattle.ptu_daemon.specs.{Answers.{HasAnswered}, Events.{config_of}};
-ghost use Rattle.ptu_daemon.specs.{Served.{numbers_in, said_by}, Serving.{HasServed, Serves, ServesEitherWay}};
+ghost use Rattle.ptu_daemon.specs.{Served.{said_by}, Serving.{HasServed, Serves, ServesEitherWay}};
 
-use crate::closing::{Closing, closing_text};
+use crate::closing::closing_text;
 use crate::daemon::Daemon;
 use ptu_config::GmSettings;
 use ptu_grandmaster::Gm;
-use ptu_lanes::{Ended, Totals, serve_lanes_within};
+use ptu_lanes::{Ended, Totals, serve_lanes};
 use ptu_messages::PortIdentity;
 use ptu_outside::{Clock, DaemonFault, Failed, Host, Opened, Port, Sink, write_whole};
 use ptu_profile::GmConfig;
@@ -20,21 +19,6 @@ use ptu_units::{OutOfMemory, UdpPortNumber};
 use std::alloc::Global;
 use std::sync::Wait;
 use std::thread::Threads;
-
-// The numbers of the last line after these rounds by lanes.
-fn closing_of(totals: &Totals) -> Closing
-    ensures rounds { result.rounds ≡ totals.now.rounds }
-    ensures numbers { numbers_in (said_by result) ≡ numbers_of totals.now }
-{
-    Closing {
-        rounds: totals.rounds,
-        sent: totals.sent,
-        failed: totals.failed,
-        granted: totals.granted,
-        refused: totals.refused,
-        held: totals.held,
-    }
-}
 
 // How the grandmaster is set up.
 fn config(settings: &GmSettings) -> GmConfig
@@ -62,15 +46,15 @@ fn serve_by_lanes<P: Port + Send, C: Clock + Send, W: Threads + Wait + Sync>(
     settings: &GmSettings,
     opened: Opened<P, C>,
     control: Option<P>,
-) -> Result<(Opened<P, C>, Option<P>, Closing), OutOfMemory>
+) -> Result<(Opened<P, C>, Option<P>, Totals), OutOfMemory>
     requires range { IsGmInRange settings.now }
     requires senders { 1 ≤ settings.now.senders }
     ensures serves { IfOk result (λ r.
         ServesEitherWay P.Port C.Clock settings.now opened r.0 control r.1 (said_by r.2)) }
 {
     let config = config(settings);
-    match serve_lanes_within(rt, alloc, threads, settings, &config, opened, control)? {
-        Ended::Served(back, control, totals) => Ok((back, control, closing_of(&totals))),
+    match serve_lanes(rt, alloc, threads, settings, &config, opened, control)? {
+        Ended::Served(back, control, totals) => Ok((back, control, totals)),
         Ended::Refused(opened, control) => serve_rounds(alloc, settings, opened, control),
     }
 }
@@ -82,7 +66,7 @@ fn serve_rounds<P: Port, C: Clock>(
     settings: &GmSettings,
     opened: Opened<P, C>,
     control: Option<P>,
-) -> Result<(Opened<P, C>, Option<P>, Closing), OutOfMemory>
+) -> Result<(Opened<P, C>, Option<P>, Totals), OutOfMemory>
     requires { IsGmInRange settings.now }
     ensures { IfOk result (λ r.
         Serves P.Port C.Clock settings.now opened r.0 control r.1 (said_by r.2)) }
@@ -105,7 +89,7 @@ fn serve_rounds<P: Port, C: Clock>(
     let mut control = control;
     let counted = daemon.rounds(alloc, settings, &mut control)?;
     let (closed, reply) = daemon.gm.close();
-    let closing = Closing {
+    let closing = Totals {
         rounds: counted.0,
         sent: counted.1.sent,
         failed: counted.1.failed,
@@ -136,7 +120,7 @@ fn serve_over<P: Port + Send, C: Clock + Send, W: Threads + Wait + Sync>(
     settings: &GmSettings,
     opened: Opened<P, C>,
     control: Option<P>,
-) -> Result<(Opened<P, C>, Option<P>, Closing), OutOfMemory>
+) -> Result<(Opened<P, C>, Option<P>, Totals), OutOfMemory>
     requires { IsGmInRange settings.now }
     ensures serves { IfOk result (λ r. settings.now.senders ≡ 0
         → Serves P.Port C.Clock settings.now opened r.0 control r.1 (said_by r.2)) }

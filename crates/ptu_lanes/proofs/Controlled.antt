@@ -187,22 +187,22 @@ serves_by_lanes ports clocks settings config opened closed speaking speaking' to
           sends.0.p0.sent,
           _,
           refl,
-          by_0,
+          by_table opened.p0 closed.p0 (seen 0) sends.0.p0.messages sends.0.p0.sent opens.0 sends.0.p0.part.some,
           (
             sends.0.p1.sent,
             _,
             refl,
-            by_1,
+            by_table opened.p1 closed.p1 (seen 1) sends.0.p1.messages sends.0.p1.sent opens.1 sends.0.p1.part.some,
             (
               sends.0.p2.sent,
               _,
               refl,
-              by_2,
+              by_table opened.p2 closed.p2 (seen 2) sends.0.p2.messages sends.0.p2.sent opens.2 sends.0.p2.part.some,
               (
                 sends.0.p3.sent,
                 _,
                 refl,
-                by_3,
+                by_table opened.p3 closed.p3 (seen 3) sends.0.p3.messages sends.0.p3.sent opens.3 sends.0.p3.part.some,
                 (did.control.exchanged.sent, 0, refl, by_4, refl),
               ),
             ),
@@ -238,21 +238,9 @@ serves_by_lanes ports clocks settings config opened closed speaking speaking' to
     Grew : ℕ → Option (List Departure) → Option (List Departure) → Type 0
     Grew many old new = IfTold (option_map length new) (option_map (λ (list : List Departure). length list + many) old)
 
-    by_0 : Grew sends.0.p0.sent (ports.sent opened.p0) (ports.sent closed.p0)
-    by_0 = subst (λ told. Grew sends.0.p0.sent told (ports.sent closed.p0)) (sym (ap (λ (s : Seen). s.sent) opens.0))
-        (many_told (seen 0).sent (ports.sent closed.p0) sends.0.p0.messages sends.0.p0.sent sends.0.p0.part.some)
-
-    by_1 : Grew sends.0.p1.sent (ports.sent opened.p1) (ports.sent closed.p1)
-    by_1 = subst (λ told. Grew sends.0.p1.sent told (ports.sent closed.p1)) (sym (ap (λ (s : Seen). s.sent) opens.1))
-        (many_told (seen 1).sent (ports.sent closed.p1) sends.0.p1.messages sends.0.p1.sent sends.0.p1.part.some)
-
-    by_2 : Grew sends.0.p2.sent (ports.sent opened.p2) (ports.sent closed.p2)
-    by_2 = subst (λ told. Grew sends.0.p2.sent told (ports.sent closed.p2)) (sym (ap (λ (s : Seen). s.sent) opens.2))
-        (many_told (seen 2).sent (ports.sent closed.p2) sends.0.p2.messages sends.0.p2.sent sends.0.p2.part.some)
-
-    by_3 : Grew sends.0.p3.sent (ports.sent opened.p3) (ports.sent closed.p3)
-    by_3 = subst (λ told. Grew sends.0.p3.sent told (ports.sent closed.p3)) (sym (ap (λ (s : Seen). s.sent) opens.3))
-        (many_told (seen 3).sent (ports.sent closed.p3) sends.0.p3.messages sends.0.p3.sent sends.0.p3.part.some)
+    by_table : (old new : P) (was : Seen) (messages : List Departure) (many : ℕ) → seen_of ports old ≡ was → SentOf was.sent (ports.sent new) messages many →
+        Grew many (ports.sent old) (ports.sent new)
+    by_table old new was messages many opens some = subst (λ told. Grew many told (ports.sent new)) (sym (ap (λ (s : Seen). s.sent) opens)) (many_told was.sent (ports.sent new) messages many some)
 
     by_4 : Grew did.control.exchanged.sent (ports.sent opened.p4) (ports.sent closed.p4)
     by_4 = subst (λ p. Grew did.control.exchanged.sent (ports.sent opened.p4) (ports.sent p)) (sym same.0)

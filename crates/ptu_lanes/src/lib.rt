@@ -21,6 +21,6 @@ pub use delays::{Delays, delay_round};
 pub use laws::{sample_changes, sample_orders};
 pub use orders::{answer, next_order};
 pub use service::{Base, Service};
-pub use serving::{Ended, Totals, serve_lanes, serve_lanes_within};
+pub use serving::{Ended, Totals, serve_lanes};
 pub use signaling::{Control, control_round};
 pub use turns::turn_round;

@@ -213,12 +213,26 @@ where
     Ok(Ended::Served(back, control, totals))
 }
 
-/// Serves a grandmaster as `serve_lanes` does, with at most so many threads beside this one. One
-/// more is refused, as where the system refuses it.
+/// Serves a grandmaster of these settings over these ports and clocks, in rounds, by lanes that
+/// work side by side in each round. Lane 0 takes up to 64 datagrams of the general channel and
+/// answers Signaling, and behind that one datagram of the control port, where there is one; lane 1
+/// takes up to 64 of the event channel and answers Delay_Reqs; lane `2 + i` turns the tables `j`
+/// with `j` mod `senders` = `i`. Lane `k` has clock `k`. Lane 0 is on this thread, and each other
+/// has one of its own. All meet after each round. Lane 1 comes last: once all others are there, it
+/// waits by port 5 until a datagram is there or a message may be due, and they sleep meanwhile. The
+/// round of the number `change_round` begins with a change of the capacity to `new_capacity` at a
+/// moment of clock 0. An order that changes something is obeyed behind the meeting of its round, by
+/// lane 0, while all others wait; a `stop` ends all. A send or a receive that fails is counted.
+/// Gives the ports and clocks back, with the last numbers.
+///
+/// All threads are made before the first datagram is taken, at most so many beside this one. Where
+/// one more is wanted, or the system refuses one or wants memory for it, no lane serves: nothing is
+/// taken or sent, no moment is taken of a clock, and the ports and clocks are given back as they
+/// were opened.
 ///
 /// # Errors
-/// As `serve_lanes`.
-pub fn serve_lanes_within<P, C, W>(
+/// `OutOfMemory`, after the round in which it came, with the ports and clocks dropped.
+pub fn serve_lanes<P, C, W>(
     rt: &W,
     alloc: Global,
     threads: usize,
@@ -238,41 +252,4 @@ where
     let base = Base { rt, alloc, config };
     let blanks = Blanks::of_seats(1);
     serve_under::<P, C, Brand, Brand, Brand, W>(&base, threads, blanks, settings, opened, control)
-}
-
-/// Serves a grandmaster of these settings over these ports and clocks, in rounds, by lanes that
-/// work side by side in each round. Lane 0 takes up to 64 datagrams of the general channel and
-/// answers Signaling, and behind that one datagram of the control port, where there is one; lane 1
-/// takes up to 64 of the event channel and answers Delay_Reqs; lane `2 + i` turns the tables `j`
-/// with `j` mod `senders` = `i`. Lane `k` has clock `k`. Lane 0 is on this thread, and each other
-/// has one of its own. All meet after each round. Lane 1 comes last: once all others are there, it
-/// waits by port 5 until a datagram is there or a message may be due, and they sleep meanwhile. The
-/// round of the number `change_round` begins with a change of the capacity to `new_capacity` at a
-/// moment of clock 0. An order that changes something is obeyed behind the meeting of its round, by
-/// lane 0, while all others wait; a `stop` ends all. A send or a receive that fails is counted.
-/// Gives the ports and clocks back, with the last numbers.
-///
-/// All threads are made before the first datagram is taken. Where the system refuses one, or wants
-/// memory for it, no lane serves: no datagram is taken or sent and no moment is taken of a clock,
-/// and the ports and clocks are given back as they were opened.
-///
-/// # Errors
-/// `OutOfMemory`, after the round in which it came, with the ports and clocks dropped.
-pub fn serve_lanes<P, C, W>(
-    rt: &W,
-    alloc: Global,
-    settings: &GmSettings,
-    config: &GmConfig,
-    opened: Opened<P, C>,
-    control: Option<P>,
-) -> Result<Ended<P, C>, OutOfMemory>
-where
-    P: Port + Send,
-    C: Clock + Send,
-    W: Threads + Wait + Sync,
-    requires range { IsGmInRange settings.now }
-    requires senders { 1 ≤ settings.now.senders }
-    ensures { IfOk result (HasEnded P.Port C.Clock settings.now config.now opened control) }
-{
-    serve_lanes_within(rt, alloc, usize::MAX, settings, config, opened, control)
 }

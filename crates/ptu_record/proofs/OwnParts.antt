@@ -12,7 +12,7 @@ use Rattle.ptu_record.specs.{Grants.{live_kinds}, Asks.{due_kinds}}
 use Rattle.ptu_record.specs.Tick.{Sending, is_probe_due, one_signaling, Requests, Cancels, Acknowledgements, DelayReq, cancels_to, delay_req_number, is_delay_req_to, is_probed, is_signaling_to, is_signalled, is_stop, requests_to, sending_entries, signaling_number}
 use Rattle.ptu_record.specs.Step.{SlaveEvent, TakeAnnounce, TakeSync, TakeFollowUp, TakeDelayResp, TakeSignaling, TellFlag, ReplaceJudge, Tick, Stop, SlaveSetup, cancel_code, entries_by, event_master, judged_entries, judged_masters, master_count, one_reply, own_entries, sendings, step_by, stop_entry}
 use Rattle.ptu_record.proofs.Others.{cancels_to_one, record_of-others, requests_one}
-use Rattle.ptu_record.proofs.StepParts.{all_of, asked_all, judged_all, none_of, record_of-append, signals_all, step_parts}
+use Rattle.ptu_record.proofs.StepParts.{all_of, asked_all, judged_all, none_of, record_of-append, signals_all, step_parts, stop_of}
 
 -- ---- what is entered for another master
 
@@ -246,23 +246,6 @@ weaker : (P Q : Entry → Type 0) → ((f : Entry) → P f → Q f) → (es : Re
 weaker P Q over [] h = tt
 weaker P Q over (f ∷ es) h = (over f h.0, weaker P Q over es h.1)
 
-own_unsignalled : (wants : Wants) (x : ℕ) (e : SlaveEvent) → AllByRecursion (λ f. is_signalled f ≡ false) (own_entries wants x e)
-own_unsignalled wants x e = weaker TakesNone (λ f. is_signalled f ≡ false) (λ f h. h.0) (own_entries wants x e) (own_takes_none wants x e)
-
-own_unprobed : (wants : Wants) (x : ℕ) (e : SlaveEvent) → AllByRecursion (λ f. is_probed f ≡ false) (own_entries wants x e)
-own_unprobed wants x e = weaker TakesNone (λ f. is_probed f ≡ false) (λ f h. h.1) (own_entries wants x e) (own_takes_none wants x e)
-
-stop_none : (p : Entry → Bool) (x : ℕ) (e : SlaveEvent) → p (Stopped x) ≡ false → AllByRecursion (λ f. p f ≡ false) (stop_entry x e)
-stop_none p x (TakeAnnounce m class) h = tt
-stop_none p x (TakeSync m number) h = tt
-stop_none p x (TakeFollowUp m) h = tt
-stop_none p x (TakeDelayResp m number) h = tt
-stop_none p x (TakeSignaling m number signals) h = tt
-stop_none p x (TellFlag m unusable) h = tt
-stop_none p x (ReplaceJudge m rule) h = tt
-stop_none p x Tick h = tt
-stop_none p x Stop h = (h, tt)
-
 sent_signalings : (x m : ℕ) (ss : List Sending) → own_count is_signalled m (flat_map (sending_entries x) ss) ≡ count_by (is_signaling_to m) ss
 sent_signalings x m [] = refl
 sent_signalings x m (Requests n number ks ∷ ss) =
@@ -311,24 +294,30 @@ step_count p setup assessments L x m e own judged stopped =
     (count_by-append p (record_of m A ++ record_of m B) (record_of m C)
     ∙ ap (λ a. a + own_count p m C) (count_by-append p (record_of m A) (record_of m B) ∙ ap₂ (λ a b. a + b) (own_count-none p m A own) (own_count-none p m B (judged_all (λ f. p f ≡ false) x judged (judged_masters (master_count setup) e) assessments)))
     ∙ zero-add (own_count p m C))
-    (own_count-none p m D (stop_none p x e stopped))
+    (own_count-none p m D (stop_of (λ f. p f ≡ false) x e stopped))
     ∙ add-zero (own_count p m C)
 
 numbered : (a b n : ℕ) → n ≡ a + b → n % 65536 ≡ (a % 65536 + b) % 65536
 numbered a b n is = omega arith
 
+-- so the next number goes on by as many as are sent
+numbers_by : (p : Entry → Bool) (sends : Sending → Bool) (setup : SlaveSetup) (assessments : List Bool) (L : Record) (x m : ℕ) (e : SlaveEvent)
+    → ((f : Entry) → TakesNone f → p f ≡ false) → ((n : ℕ) (b : Bool) → p (Judged x n b) ≡ false) → p (Stopped x) ≡ false
+    → own_count p m (flat_map (sending_entries x) (sendings setup L x e)) ≡ count_by sends (sendings setup L x e)
+    → own_count p m (L ++ entries_by setup assessments L x e) % 65536 ≡ (own_count p m L % 65536 + count_by sends (sendings setup L x e)) % 65536
+numbers_by p sends setup assessments L x m e none judged stopped sent =
+    let own = weaker TakesNone (λ f. p f ≡ false) none (own_entries setup.wants x e) (own_takes_none setup.wants x e) in
+    numbered (own_count p m L) (count_by sends (sendings setup L x e)) (own_count p m (L ++ entries_by setup assessments L x e))
+    (own_count-append p m L (entries_by setup assessments L x e) ∙ ap (λ n. own_count p m L + n) (step_count p setup assessments L x m e own judged stopped ∙ sent))
+
 pub signaling_numbers : (setup : SlaveSetup) (assessments : List Bool) (L : Record) (t m : ℕ) (e : SlaveEvent)
     → signaling_number (record_of m (L ++ (step_by setup assessments L t e).entries)) ≡ (signaling_number (record_of m L) + count_by (is_signaling_to m) (step_by setup assessments L t e).sendings) % 65536
 signaling_numbers setup assessments L t m e =
-    numbered (own_count is_signalled m L) (count_by (is_signaling_to m) (sendings setup L (event_moment L t) e)) (own_count is_signalled m (L ++ entries_by setup assessments L (event_moment L t) e))
-    (own_count-append is_signalled m L (entries_by setup assessments L (event_moment L t) e)
-    ∙ ap (λ n. own_count is_signalled m L + n) (step_count is_signalled setup assessments L (event_moment L t) m e (own_unsignalled setup.wants (event_moment L t) e) (λ n b. refl) refl
-    ∙ sent_signalings (event_moment L t) m (sendings setup L (event_moment L t) e)))
+    numbers_by is_signalled (is_signaling_to m) setup assessments L (event_moment L t) m e (λ f h. h.0) (λ n b. refl) refl
+    (sent_signalings (event_moment L t) m (sendings setup L (event_moment L t) e))
 
 pub delay_req_numbers : (setup : SlaveSetup) (assessments : List Bool) (L : Record) (t m : ℕ) (e : SlaveEvent)
     → delay_req_number (record_of m (L ++ (step_by setup assessments L t e).entries)) ≡ (delay_req_number (record_of m L) + count_by (is_delay_req_to m) (step_by setup assessments L t e).sendings) % 65536
 delay_req_numbers setup assessments L t m e =
-    numbered (own_count is_probed m L) (count_by (is_delay_req_to m) (sendings setup L (event_moment L t) e)) (own_count is_probed m (L ++ entries_by setup assessments L (event_moment L t) e))
-    (own_count-append is_probed m L (entries_by setup assessments L (event_moment L t) e)
-    ∙ ap (λ n. own_count is_probed m L + n) (step_count is_probed setup assessments L (event_moment L t) m e (own_unprobed setup.wants (event_moment L t) e) (λ n b. refl) refl
-    ∙ sent_delay_reqs (event_moment L t) m (sendings setup L (event_moment L t) e)))
+    numbers_by is_probed (is_delay_req_to m) setup assessments L (event_moment L t) m e (λ f h. h.1) (λ n b. refl) refl
+    (sent_delay_reqs (event_moment L t) m (sendings setup L (event_moment L t) e))

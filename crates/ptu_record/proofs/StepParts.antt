@@ -7,7 +7,7 @@ use Rattle.std.specs.{Option.{option_map, unwrap_or}, Prelude.{◌↔◌, IsSome
 use Rattle.ptu_units.specs.declared.kind.Kind.{Kind}
 use Rattle.ptu_record.specs.declared.{rule.Rule.{Rule}, wants.Wants.{Wants}}
 use Rattle.ptu_record.specs.Lists.{maximum}
-use Rattle.ptu_record.specs.Record.{Entry, Record, moment_of, event_moment, concerns, record_of, Judged, Asked, Granted, Denied, Cancelled, Event}
+use Rattle.ptu_record.specs.Record.{Entry, Record, moment_of, event_moment, concerns, record_of, Judged, Asked, Granted, Denied, Cancelled, Stopped, Event}
 use Rattle.ptu_record.specs.Judges.{IsAssessment, AreAssessments, assessment, opening_of, rule_in_force, ruled_assessment}
 use Rattle.ptu_record.specs.Tick.{Sending, Requests, Cancels, Acknowledgements, DelayReq, sending_entries}
 use Rattle.ptu_record.specs.Step.{Signal, GrantTlv, CancelTlv, AckTlv, SlaveEvent, TakeAnnounce, TakeSync, TakeFollowUp, TakeDelayResp, TakeSignaling, TellFlag, ReplaceJudge, Tick, Stop, SlaveSetup, SlaveStep, IsStep, entries_by, grant_entry, judged_entries, judged_masters, judged_record, master_count, or_event, own_entries, sendings, signal_entry, slave_step, step_by, stop_entry, wanted_kind}
@@ -84,20 +84,21 @@ sent_at x (Cancels m number kinds ∷ ss) = (refl, sent_at x ss)
 sent_at x (Acknowledgements m number codes ∷ ss) = sent_at x ss
 sent_at x (DelayReq m number ∷ ss) = (refl, sent_at x ss)
 
-stop_at : (x : ℕ) (e : SlaveEvent) → AllByRecursion (IsAt x) (stop_entry x e)
-stop_at x (TakeAnnounce m class) = tt
-stop_at x (TakeSync m number) = tt
-stop_at x (TakeFollowUp m) = tt
-stop_at x (TakeDelayResp m number) = tt
-stop_at x (TakeSignaling m number signals) = tt
-stop_at x (TellFlag m unusable) = tt
-stop_at x (ReplaceJudge m rule) = tt
-stop_at x Tick = tt
-stop_at x Stop = (refl, tt)
+-- what is so of the entry of a stop
+pub stop_of : (P : Entry → Type 0) (x : ℕ) (e : SlaveEvent) → P (Stopped x) → AllByRecursion P (stop_entry x e)
+stop_of P x (TakeAnnounce m class) h = tt
+stop_of P x (TakeSync m number) h = tt
+stop_of P x (TakeFollowUp m) h = tt
+stop_of P x (TakeDelayResp m number) h = tt
+stop_of P x (TakeSignaling m number signals) h = tt
+stop_of P x (TellFlag m unusable) h = tt
+stop_of P x (ReplaceJudge m rule) h = tt
+stop_of P x Tick h = tt
+stop_of P x Stop h = (h, tt)
 
 entries_at : (setup : SlaveSetup) (assessments : List Bool) (L : Record) (x : ℕ) (e : SlaveEvent) → AllByRecursion (IsAt x) (entries_by setup assessments L x e)
 entries_at setup assessments L x e =
-    all_of (IsAt x) setup assessments L x e (own_at setup.wants x e) (judged_all (IsAt x) x (λ m b. refl) (judged_masters (master_count setup) e) assessments) (sent_at x (sendings setup L x e)) (stop_at x e) refl
+    all_of (IsAt x) setup assessments L x e (own_at setup.wants x e) (judged_all (IsAt x) x (λ m b. refl) (judged_masters (master_count setup) e) assessments) (sent_at x (sendings setup L x e)) (stop_of (IsAt x) x e refl) refl
 
 -- something is entered
 or_event_some : (x : ℕ) (es : Record) → or_event x es ≢ []

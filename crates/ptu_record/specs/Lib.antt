@@ -7,6 +7,7 @@ pub mod SignalFails
 pub mod OutageEnds
 pub mod Selection
 pub mod Wants
+pub mod Kinds
 pub mod Grants
 pub mod Asks
 pub mod Kept

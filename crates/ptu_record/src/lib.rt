@@ -4,12 +4,14 @@
 #![tactic(auto)]
 
 pub mod examples;
+mod kinds;
 pub mod laws;
 mod quality;
 mod rule;
 pub mod steps;
 mod wants;
 
+pub use kinds::Kinds;
 pub use quality::{Quality, quality_of};
 pub use rule::{NAMED_GAP, Rule};
 pub use wants::{Wants, receipt_timeout};

@@ -2,12 +2,11 @@
 use Rattle.std.proofs.Common.{◌≡◌, Bool, ◌&&◌, cond, List, [], ◌∷◌, Some, None, refl, ap, ◌∙◌}
 use Rattle.std.specs.Option.{is_some}
 use Rattle.ptu_units.specs.declared.kind.{Kind.{Kind}, Kind.TheVariants.{Announce, Sync, DelayResp}}
-use Rattle.ptu_record.specs.{declared.wants.Wants.{Wants}, Record.{Record}}
-use Rattle.ptu_record.specs.Asks.{is_due, due_kinds}
-use Rattle.ptu_requester.specs.{declared.due.Due.{Due}, Due.{kinds_of}}
+use Rattle.ptu_record.specs.declared.{kinds.Kinds.{Kinds}, wants.Wants.{Wants}}
+use Rattle.ptu_record.specs.{Asks.{is_due, due_kinds}, Kinds.{kinds_in}, Record.{Record}}
 
-pub kinds_are : (wants : Wants) (L : Record) (t : _) (due : Due) → due.announce ≡ is_due Announce L t → due.sync ≡ is_due Sync L t
-    → due.delay ≡ (is_some wants.delay && is_due DelayResp L t) → kinds_of due ≡ due_kinds wants L t
+pub kinds_are : (wants : Wants) (L : Record) (t : _) (due : Kinds) → due.announce ≡ is_due Announce L t → due.sync ≡ is_due Sync L t
+    → due.delay ≡ (is_some wants.delay && is_due DelayResp L t) → kinds_in due ≡ due_kinds wants L t
 kinds_are wants L t due announce sync delay =
     ap (λ a. cond a (Announce ∷ rest due.sync due.delay) (rest due.sync due.delay)) announce
     ∙ ap (λ s. cond (is_due Announce L t) (Announce ∷ rest s due.delay) (rest s due.delay)) sync

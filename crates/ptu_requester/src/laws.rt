@@ -4,19 +4,18 @@ ghost use Rattle.std.specs.Prelude.{◌≡◌, ◌+◌, ◌≤◌, ◌<◌, ℕ,
 ghost use Rattle.std.specs.List.{AllByRecursion};
 ghost use Rattle.ptu_units.specs.{declared.kind.Kind.{Kind}, Kind.{kinds}};
 ghost use Rattle.ptu_record.specs.Record.{Record, record_of, Asked, Granted, Denied, Cancelled, Stopped, Event};
-ghost use Rattle.ptu_record.specs.{Examples.{one_of_each}, Grants.{is_live, live_kinds}};
-ghost use Rattle.ptu_requester.specs.Due.{kinds_of};
+ghost use Rattle.ptu_record.specs.{Examples.{one_of_each}, Grants.{is_live, live_kinds}, Kinds.{kinds_in}};
 ghost use Rattle.ptu_requester.specs.Requester.{Kept, StandsFor, is_negotiation, all_cancels};
 
 /// The kinds that a master is to be asked for, flag by flag.
 pub fn flags()
-    ensures announce { kinds_of (record { announce = true; sync = false; delay = false }) ≡
+    ensures announce { kinds_in (record { announce = true; sync = false; delay = false }) ≡
         Kind.Announce ∷ [] }
-    ensures sync { kinds_of (record { announce = false; sync = true; delay = false }) ≡
+    ensures sync { kinds_in (record { announce = false; sync = true; delay = false }) ≡
         Kind.Sync ∷ [] }
-    ensures delay { kinds_of (record { announce = false; sync = false; delay = true }) ≡
+    ensures delay { kinds_in (record { announce = false; sync = false; delay = true }) ≡
         Kind.DelayResp ∷ [] }
-    ensures all { kinds_of (record { announce = true; sync = true; delay = true }) ≡ kinds }
+    ensures all { kinds_in (record { announce = true; sync = true; delay = true }) ≡ kinds }
 {}
 
 /// A requester stands as well for a record to which entries were added that say nothing of asks

@@ -5,11 +5,9 @@
 //! with time.
 #![tactic(auto)]
 
-mod due;
 pub mod laws;
 mod negotiation;
 mod negotiations;
 mod requester;
 
-pub use due::Due;
-pub use requester::Requester;
+pub use requester::{Due, Requester};

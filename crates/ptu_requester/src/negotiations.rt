@@ -4,12 +4,11 @@ ghost use Rattle.std.specs.Prelude.{◌≡◌, ℕ, ◌<◌, ◌≤◌, ◌&&◌
 ghost use Rattle.std.specs.Option.{is_some};
 ghost use Rattle.ptu_units.specs.declared.kind.Kind.TheVariants.{DelayResp as Delay};
 ghost use Rattle.ptu_record.specs.{Record.{Record}, Grants.{is_live, run_start}};
-ghost use Rattle.ptu_record.specs.Asks.{due_kinds, is_due};
-ghost use Rattle.ptu_requester.specs.{Due.{kinds_of}, Negotiation.{entry_of}, Requester.{AreKept}};
+ghost use Rattle.ptu_record.specs.{Asks.{due_kinds, is_due}, Kinds.{kinds_in}};
+ghost use Rattle.ptu_requester.specs.{Negotiation.{entry_of}, Requester.{AreKept}};
 
-use crate::due::Due;
 use crate::negotiation::{Change, Negotiation};
-use ptu_record::Wants;
+use ptu_record::{Kinds, Wants};
 use ptu_units::{Kind, Moment};
 use std::alloc::{AllocError, Global};
 
@@ -57,11 +56,11 @@ impl Negotiations {
     }
 
     /// The kinds that are requested and to be asked for at a moment.
-    pub fn due(&self, wants: &Wants, t: Moment) -> Due
+    pub fn due(&self, wants: &Wants, t: Moment) -> Kinds
         ensures { (L : Record) → AreKept L self.now →
-            kinds_of result ≡ due_kinds wants.now L t }
+            kinds_in result ≡ due_kinds wants.now L t }
     {
-        Due {
+        Kinds {
             announce: self.announce.is_due(t),
             sync: self.sync.is_due(t),
             delay: match wants.delay {

@@ -4,17 +4,20 @@
 ghost use Rattle.std.specs.Prelude.{◌≡◌, ℕ, ◌<◌, ◌≤◌, ◌∷◌, [], length, IfOk};
 ghost use Rattle.ptu_record.specs.Record.{Record, record_of, Asked, Cancelled};
 ghost use Rattle.ptu_record.specs.{Grants.{is_live, run_start}, Asks.{due_kinds}};
-ghost use Rattle.ptu_record.specs.Step.{grant_entry};
-ghost use Rattle.ptu_requester.specs.{Due.{kinds_of}, Negotiation.{entry_of}};
+ghost use Rattle.ptu_record.specs.{Kinds.{kinds_in}, Step.{grant_entry}};
+ghost use Rattle.ptu_requester.specs.Negotiation.{entry_of};
 ghost use Rattle.ptu_requester.specs.Requester.{ChangesOnly, Enters, StandsFor};
 
-use crate::due::Due;
 use crate::negotiation::Change;
 use crate::negotiations::Negotiations;
-use ptu_record::Wants;
+use ptu_record::{Kinds, Wants};
 use ptu_units::{Kind, Moment, OutOfMemory};
 use std::alloc::Global;
 use std::marker::Model;
+
+/// The kinds for which a master is to be asked. Delay_Resp is never among them where it is not
+/// requested.
+pub type Due = Kinds;
 
 /// When a slave asks each of its masters, and which of its grants are live (IEEE 1588-2019
 /// clause 16.1). A master is named by its place in the slave's list.
@@ -57,7 +60,7 @@ impl Requester {
     pub fn due(&self, t: Moment, master: usize) -> Due
         requires { master < length self.now.masters }
         ensures { (L : Record) → StandsFor self.now L →
-            kinds_of result ≡ due_kinds self.now.wants (record_of master L) t }
+            kinds_in result ≡ due_kinds self.now.wants (record_of master L) t }
     {
         self.masters[master].due(&self.wants, t)
     }

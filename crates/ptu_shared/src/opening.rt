@@ -99,21 +99,15 @@ impl Blanks {
             × (result.0.refused ≡ self.refused) }
         ensures turner { result.1 ≡ all_turns }
     {
-        let Blanks {
-            rates,
-            granted,
-            refused,
-            turns,
-        } = self;
-        let TurnBlanks { t0, t1, t2, t3 } = turns;
+        let TurnBlanks { t0, t1, t2, t3 } = self.turns;
         let (book0, t0) = open_turns(t0);
         let (book1, t1) = open_turns(t1);
         let (book2, t2) = open_turns(t2);
         let (book3, t3) = open_turns(t3);
         let ledgers = Ledgers {
-            rates,
-            granted,
-            refused,
+            rates: self.rates,
+            granted: self.granted,
+            refused: self.refused,
             t0,
             t1,
             t2,

@@ -100,27 +100,19 @@ impl<P: Port + Send, L: Rates, G: Ledger, R: Ledger> Shared<P, L, G, R> {
         requires seats { (1 ≤ seats) × (seats ≤ 64) × (seats ≡ L.seats) }
         ensures seats { IfOk result (λ made. made.1.items ≡ replicate seats no_verdicts) }
     {
-        let Ledgers {
-            rates,
-            granted,
-            refused,
-            t0,
-            t1,
-            t2,
-            t3,
-        } = ledgers;
         let TablePorts { p0, p1, p2, p3 } = ports;
-        let (rates, mut part) = rates.open::<L>();
+        let (rates, mut part) = ledgers.rates.open::<L>();
         let part3 = part.split_off(1, 0);
         let part2 = part.split_off(1, 0);
         let part1 = part.split_off(1, 0);
+        let (granted, refused) = (ledgers.granted, ledgers.refused);
         let (desk, given) = open_desk(alloc, rates, granted, refused, capacity, seats)?;
         let shared = Shared {
             alloc,
-            t0: Mutex::new(LawfulTable::new(Table::new(alloc, p0, part), t0)),
-            t1: Mutex::new(LawfulTable::new(Table::new(alloc, p1, part1), t1)),
-            t2: Mutex::new(LawfulTable::new(Table::new(alloc, p2, part2), t2)),
-            t3: Mutex::new(LawfulTable::new(Table::new(alloc, p3, part3), t3)),
+            t0: Mutex::new(LawfulTable::new(Table::new(alloc, p0, part), ledgers.t0)),
+            t1: Mutex::new(LawfulTable::new(Table::new(alloc, p1, part1), ledgers.t1)),
+            t2: Mutex::new(LawfulTable::new(Table::new(alloc, p2, part2), ledgers.t2)),
+            t3: Mutex::new(LawfulTable::new(Table::new(alloc, p3, part3), ledgers.t3)),
             desk: Mutex::new(desk),
         };
         Ok((shared, given))

@@ -13,7 +13,7 @@ use Rattle.ptu_record.specs.Step.{wanted_kind}
 use Rattle.ptu_record.specs.Tick.{Cancels, DelayReq, Requests, delay_req_number, is_probe_due, one_signaling, requests_to, probe_moment, sending_entries, signaling_number}
 use Rattle.ptu_record.proofs.ListLaws.{last-filter_map}
 use Rattle.ptu_record.proofs.Requests.{delay_req_number-push, signaling_number-push}
-use Rattle.ptu_slave_messages.specs.{declared.kinds.Kinds.{Kinds}, Sending.{are_some, kinds_in}}
+use Rattle.ptu_record.specs.{declared.kinds.Kinds.{Kinds}, Kinds.{are_some, kinds_in}}
 use Rattle.ptu_slave.specs.declared.counters.Counters.{Counters}
 use Rattle.ptu_requester.specs.Requester.{StandsFor, is_negotiation}
 use Rattle.ptu_requester.proofs.Silence.{stands_silent}

@@ -6,8 +6,8 @@ use Rattle.std.specs.{Option.{unwrap_or}, Prelude.{IsSome}}
 use Rattle.ptu_record.specs.{declared.rule.Rule.{Rule}, Lists.{last}}
 use Rattle.ptu_record.specs.Record.{Record, concerns, event_moment, record_of}
 use Rattle.ptu_record.specs.{Judges.{opening_of, rule_given, rule_in_force}, Tick.{sending_entries}}
-use Rattle.ptu_record.specs.Step.{SlaveEvent, TakeAnnounce, TakeSync, TakeFollowUp, TakeDelayResp, TakeSignaling, TellFlag, ReplaceJudge, Tick, Stop, SlaveSetup, SlaveStep, entries_by, judged_entries, judged_masters, judged_record, master_count, or_event, own_entries, sendings, slave_step, stop_entry}
-use Rattle.ptu_record.proofs.StepParts.{judged_all, one_step, record_of-append}
+use Rattle.ptu_record.specs.Step.{SlaveEvent, SlaveSetup, SlaveStep, entries_by, judged_entries, judged_masters, judged_record, master_count, or_event, own_entries, sendings, slave_step, stop_entry}
+use Rattle.ptu_record.proofs.StepParts.{judged_all, one_step, record_of-append, stop_of}
 use Rattle.ptu_judges.specs.Held.{Held}
 use Rattle.ptu_slave.specs.{Kept.{Kept}, Standing.{StandsFor, Steps, setup_of}}
 use Rattle.ptu_slave.proofs.Sendings.{sent_all}
@@ -30,24 +30,13 @@ or_event_rules : (m x : ℕ) (W : Record) → filter_map rule_given (record_of m
 or_event_rules m x [] = refl
 or_event_rules m x (e ∷ W) = refl
 
-no_stop_rule : (x : ℕ) (e : SlaveEvent) → AllByRecursion (λ f. rule_given f ≡ None) (stop_entry x e)
-no_stop_rule x (TakeAnnounce m class) = tt
-no_stop_rule x (TakeSync m number) = tt
-no_stop_rule x (TakeFollowUp m) = tt
-no_stop_rule x (TakeDelayResp m number) = tt
-no_stop_rule x (TakeSignaling m number signals) = tt
-no_stop_rule x (TellFlag m unusable) = tt
-no_stop_rule x (ReplaceJudge m rule) = tt
-no_stop_rule x Tick = tt
-no_stop_rule x Stop = (refl, tt)
-
 -- after an event the rule in force is that which its judges had before them
 pub same_rules : (setup : SlaveSetup) (assessments : List Bool) (L : Record) (x m : ℕ) (e : SlaveEvent)
     → filter_map rule_given (record_of m (L ++ entries_by setup assessments L x e)) ≡ filter_map rule_given (record_of m (judged_record setup L x e))
 same_rules setup assessments L x m e =
     ap (filter_map rule_given) (record_of-append m L (or_event x W)) ∙ filter_map-append rule_given (record_of m L) (record_of m (or_event x W))
     ∙ ap (λ w. filter_map rule_given (record_of m L) ++ w)
-    (or_event_rules m x W ∙ rules m (own ++ J ++ S) (stop_entry x e) (no_stop_rule x e)
+    (or_event_rules m x W ∙ rules m (own ++ J ++ S) (stop_entry x e) (stop_of (λ f. rule_given f ≡ None) x e refl)
     ∙ rules m (own ++ J) S (sent_all (λ f. rule_given f ≡ None) x (λ n. refl) (λ n k. refl) (λ n. refl) (sendings setup L x e))
     ∙ rules m own J (judged_all (λ f. rule_given f ≡ None) x (λ n b. refl) (judged_masters (master_count setup) e) assessments))
     ∙ sym (ap (filter_map rule_given) (record_of-append m L own) ∙ filter_map-append rule_given (record_of m L) (record_of m own))

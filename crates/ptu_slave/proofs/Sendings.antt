@@ -9,7 +9,7 @@ use Rattle.ptu_units.specs.declared.kind.Kind.{Kind}
 use Rattle.ptu_outside.specs.{HandsOver.{HandsOver}}
 use Rattle.ptu_record.specs.{declared.wants.Wants.{Wants}, Lists.{places}}
 use Rattle.ptu_record.specs.Record.{Entry, Record, concerns, record_of, Asked, Cancelled, Probed, Signalled}
-use Rattle.ptu_record.specs.{Asks.{due_kinds}, Grants.{live_kinds}}
+use Rattle.ptu_record.specs.{Asks.{due_kinds}, Grants.{live_kinds}, Kinds.{are_some, kinds_in}}
 use Rattle.ptu_record.specs.Tick.{Acknowledgements, Cancels, DelayReq, Requests, Sending, delay_req_number, is_probe_due, one_signaling, requests_to, sending_entries, signaling_number}
 use Rattle.ptu_record.proofs.{Others.{record_of-others, requests_one}, StepParts.{asked_all}}
 use Rattle.ptu_requester.specs.Requester.{all_cancels}
@@ -17,7 +17,7 @@ use Rattle.ptu_requester.proofs.Stops.{all_cancels-before, all_cancels-next}
 use Rattle.ptu_profile.specs.declared.slave.{Master.{Master}, SlaveConfig.{SlaveConfig}}
 use Rattle.ptu_slave_messages.specs.declared.plan.{StopPlan.{StopPlan}, TickPlan.{TickPlan}}
 use Rattle.ptu_profile.specs.Slave.{address_of}
-use Rattle.ptu_slave_messages.specs.Sending.{are_some, sending_departure, departure_to, kinds_in, stop_plan, tick_plan}
+use Rattle.ptu_slave_messages.specs.Sending.{sending_departure, departure_to, stop_plan, tick_plan}
 use Rattle.ptu_profile.specs.Target.{all_ones}
 use Rattle.ptu_outside.specs.declared.port.Port.{Ghosts as Ports}
 use Rattle.ptu_outside.proofs.HandsOver.{hands-append}

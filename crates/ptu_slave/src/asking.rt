@@ -3,15 +3,14 @@
 ghost use Rattle.std.specs.Prelude.{◌≡◌, ℕ, ◌<◌, ◌≤◌, ◌^◌, false, nat_le, List, [], ◌∷◌, ◌++◌, cond, map, length, filter_map, option_to_list};
 ghost use Rattle.ptu_units.specs.Log.{period_of};
 ghost use Rattle.ptu_record.specs.{Lists.{maximum}, Record.{Record, record_of}};
-ghost use Rattle.ptu_record.specs.{Grants.{live_kinds}, Tick.{is_probe_due}};
+ghost use Rattle.ptu_record.specs.{Grants.{live_kinds}, Kinds.{kinds_in}, Tick.{is_probe_due}};
 ghost use Rattle.ptu_requester.specs.Requester.{Enters, StandsFor};
-ghost use Rattle.ptu_slave_messages.specs.Sending.{kinds_in};
 ghost use Rattle.ptu_slave.specs.{Kept.{CountFor}, Parts.{heard_entry, kind_entry}};
 
 use crate::counters::Counters;
-use ptu_record::Wants;
+use ptu_record::{Kinds, Wants};
 use ptu_requester::Requester;
-use ptu_slave_messages::{Kinds, Signal, requested};
+use ptu_slave_messages::{Signal, requested};
 use ptu_units::{Kind, Moment, period};
 
 // The later of two moments in nanoseconds, or 0 where there is none.

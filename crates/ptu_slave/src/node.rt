@@ -8,9 +8,8 @@ ghost use Rattle.ptu_record.specs.Record.{Record, record_of, Announce, Resp, Jud
 ghost use Rattle.ptu_record.specs.{Grants.{live_kinds}, Selection.{selected_master}};
 ghost use Rattle.ptu_record.specs.Tick.{is_stop, requests_to, sending_entries, tick_sendings};
 ghost use Rattle.ptu_profile.specs.Slave.{AreMasters, address_of, priorities, timeouts};
-ghost use Rattle.ptu_requester.specs.Due as due;
 ghost use Rattle.ptu_select.specs.Selecting.{SelectsBy};
-ghost use Rattle.ptu_slave_messages.specs.Sending.{kinds_in, stop_plan, tick_plan};
+ghost use Rattle.ptu_slave_messages.specs.Sending.{stop_plan, tick_plan};
 ghost use Rattle.ptu_slave.specs.{Kept.{CountFor, Kept}, Parts.{cancels_by, heard_entry, news_entry}};
 ghost use Rattle.ptu_slave.specs.Standing.{Asks, Selects, Shows};
 
@@ -19,9 +18,9 @@ use crate::counters::Counters;
 use crate::judging::News;
 use ptu_profile::{Master, SlaveConfig};
 use ptu_record::receipt_timeout;
-use ptu_requester::{Due, Requester};
+use ptu_requester::Requester;
 use ptu_select::Selector;
-use ptu_slave_messages::{Kinds, Signal, StopPlan, TickPlan};
+use ptu_slave_messages::{Signal, StopPlan, TickPlan};
 use ptu_units::timescale::NANOS_PER_SECOND;
 use ptu_units::{Log, Moment, OutOfMemory};
 use std::alloc::{AllocError, Global};
@@ -257,8 +256,7 @@ impl Core {
           counters = self.new.counters;
         } }
     {
-        let due = self.requester.due(at, master);
-        let kinds = kinds_due(due);
+        let kinds = self.requester.due(at, master);
         let counters = &mut self.counters[master];
         let is_probed = is_probe_due(&self.requester, &self.config.wants, counters, at, master);
         let number = counters.signal(at, kinds.any());
@@ -361,16 +359,5 @@ fn earliest(moment: Moment, nanos: u64) -> Moment
     match Moment::of(nanos) {
         Some(other) if other.nanos() < moment.nanos() => other,
         _ => moment,
-    }
-}
-
-// The kinds for which the master is to be asked.
-fn kinds_due(wanted: Due) -> Kinds
-    ensures { kinds_in result ≡ due.kinds_of wanted }
-{
-    Kinds {
-        announce: wanted.announce,
-        sync: wanted.sync,
-        delay: wanted.delay,
     }
 }

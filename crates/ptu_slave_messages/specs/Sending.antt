@@ -1,7 +1,6 @@
 -- What a slave sends to its masters, as datagrams (IEEE 1588-2019 clauses 13.6, 13.12 and 16.1.4).
-use Rattle.std.specs.Prelude.{ℕ, List, [], ◌∷◌, ◌++◌, map, filter, option_map, option_to_list, unwrap_or, Bool, true, false, pos}
-use Rattle.ptu_units.specs.declared.kind.{Kind.{Kind}, Kind.TheVariants.{Announce, Sync, DelayResp}}
-use Rattle.ptu_units.specs.Kind.{code_of, kinds}
+use Rattle.std.specs.Prelude.{ℕ, List, [], ◌∷◌, ◌++◌, map, option_map, option_to_list, unwrap_or, pos}
+use Rattle.ptu_units.specs.{declared.kind.Kind.{Kind}, Kind.{code_of}}
 use Rattle.ptu_messages.specs.declared.header.PortIdentity.{PortIdentity}
 use Rattle.ptu_messages.specs.declared.tlv.Tlv.{Tlv}
 use Rattle.ptu_messages.specs.declared.tlv.Tlv.TheVariants as tlv
@@ -10,12 +9,11 @@ use Rattle.ptu_messages.specs.{declared.message.Message.{Message}, Sent.{octets_
 use Rattle.ptu_outside.specs.declared.channel.Channel.{Channel}
 use Rattle.ptu_outside.specs.declared.channel.Channel.TheVariants.{Event, General}
 use Rattle.ptu_outside.specs.Departure.{Departure}
-use Rattle.ptu_record.specs.declared.wants.Wants.{Wants}
+use Rattle.ptu_record.specs.{declared.wants.Wants.{Wants}, Kinds.{kinds_in}}
 use Rattle.ptu_record.specs.Tick.{Sending, Requests, Cancels, Acknowledgements, DelayReq, one_signaling}
 use Rattle.ptu_record.specs.Wants.{wanted_log}
 use Rattle.ptu_profile.specs.declared.slave.{Master.{Master}, SlaveConfig.{SlaveConfig}}
-use Rattle.ptu_slave_messages.specs.declared.{kinds.Kinds.{Kinds}, plan.TickPlan.{TickPlan}}
-use Rattle.ptu_slave_messages.specs.declared.plan.StopPlan.{StopPlan}
+use Rattle.ptu_slave_messages.specs.declared.plan.{StopPlan.{StopPlan}, TickPlan.{TickPlan}}
 use Rattle.ptu_profile.specs.Slave.{address_of, slave_header}
 
 -- ---- messages
@@ -63,19 +61,6 @@ abbrev pub sending_departure : SlaveConfig → List Master → PortIdentity → 
 sending_departure config masters target sending = departure_to config (address_of masters (receiver sending)) target sending
 
 -- ---- what is made up for one master
-
--- the kinds that are among these, in their order
-abbrev pub is_among : Kinds → Kind → Bool
-is_among some Announce = some.announce
-is_among some Sync = some.sync
-is_among some DelayResp = some.delay
-
-abbrev pub kinds_in : Kinds → List Kind
-kinds_in some = filter (is_among some) kinds
-
-abbrev pub are_some : List Kind → Bool
-are_some [] = false
-are_some (k ∷ ks) = true
 
 -- what a tick sends to the master at a place
 abbrev pub tick_plan : ℕ → TickPlan → List Sending

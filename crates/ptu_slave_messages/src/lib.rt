@@ -4,7 +4,6 @@
 
 mod content;
 mod heard;
-mod kinds;
 mod laws;
 mod plan;
 mod reason;
@@ -16,7 +15,6 @@ mod sorting;
 
 pub use content::{Accepted, Content};
 pub use heard::{Heard, HeardReply};
-pub use kinds::Kinds;
 pub use laws::sample_datagrams;
 pub use plan::{StopPlan, TickPlan};
 pub use ptu_profile::{Master, SlaveConfig};

@@ -1,6 +1,6 @@
 //! What a tick and the stop send to one master, before it is written as octets.
 
-use crate::kinds::Kinds;
+use ptu_record::Kinds;
 
 /// What a tick sends to one master.
 #[derive(Clone, Copy)]

@@ -4,19 +4,19 @@ ghost use Rattle.std.specs.Prelude.{◌≡◌, ◌+◌, ◌≤◌, ◌∷◌, []
 ghost use Rattle.ptu_messages.specs.declared.header.PortIdentity.{PortIdentity};
 ghost use Rattle.ptu_messages.specs.Sent.{octets_sent, signaling};
 ghost use Rattle.ptu_outside.specs.{HandsOver.{HandsOver}, Replies.{reply_failed, reply_sent}};
-ghost use Rattle.ptu_record.specs.Step.{one_reply};
+ghost use Rattle.ptu_record.specs.{Kinds.{kinds_in}, Step.{one_reply}};
 ghost use Rattle.ptu_record.specs.Tick.{Requests, Cancels, DelayReq, one_signaling};
 ghost use Rattle.ptu_messages.specs.{TlvsSent.{IsSendable}, declared.tlv.Tlv.TheVariants.{Ack}};
-ghost use Rattle.ptu_slave_messages.specs.Sending.{tick_plan, departure_to, stop_plan, kinds_in};
+ghost use Rattle.ptu_slave_messages.specs.Sending.{tick_plan, departure_to, stop_plan};
 ghost use Rattle.ptu_profile.specs.Target.{all_ones};
 ghost use Rattle.ptu_profile.specs.Slave.{slave_header};
 
-use crate::kinds::Kinds;
 use crate::plan::{StopPlan, TickPlan};
 use crate::signaling::{delay_req, put_cancels, put_requests};
 use ptu_messages::{PortIdentity, Tlv, write_fixed, write_signaling};
 use ptu_outside::{Channel, Port, Reply, Sends, hand};
 use ptu_profile::{ALL_ONES, SlaveConfig};
+use ptu_record::Kinds;
 use ptu_units::message_types::SIGNALING;
 use ptu_units::sizes::{ANNOUNCE_LENGTH, LONGEST_SIGNALING};
 

@@ -2,14 +2,13 @@
 
 ghost use Rattle.std.specs.Prelude.{◌≡◌, ◌+◌, ◌<◌, ◌++◌, ◌∷◌, [], List, cond, take, map};
 ghost use Rattle.ptu_messages.specs.Sent.{IsFixed};
-ghost use Rattle.ptu_record.specs.Tick.{DelayReq};
-ghost use Rattle.ptu_slave_messages.specs.Sending.{cancel_of, kinds_in, message_of, request_of};
+ghost use Rattle.ptu_record.specs.{Kinds.{kinds_in}, Tick.{DelayReq}};
+ghost use Rattle.ptu_slave_messages.specs.Sending.{cancel_of, message_of, request_of};
 ghost use Rattle.ptu_profile.specs.Target.{all_ones};
 
-use crate::kinds::Kinds;
 use ptu_messages::{Ask, Body, Message, Tlv};
 use ptu_profile::SlaveConfig;
-use ptu_record::Wants;
+use ptu_record::{Kinds, Wants};
 use ptu_units::message_types::DELAY_REQ;
 use ptu_units::{Kind, Stamp};
 

@@ -15,34 +15,19 @@ use std::sync::Wait;
 use std::sync::ledger::Ledger;
 use std::test::Fail;
 
-// A REQUEST of Announce of the client of table 2 at logarithm 1 for 300 s, to every port.
-const REQUEST: &str = "0c120036040004000000000000000000000000000a000000000000110001\
-                       0000057fffffffffffffffffffff00040006b0010000012c";
+// A datagram that begins so, comes from port 1 of the clock with this last octet, and goes on so.
+fn octets(alloc: Global, head: &str, clock: &str, rest: &str) -> Result<Vec<u8>, Fail> {
+    let digits = format!(in alloc;
+        "{head}040004000000000000000000000000000a000000000000{clock}0001{rest}"
+    )?;
+    Ok(hex::decode(alloc, digits.as_str())?)
+}
 
-// Its Signaling without TLVs.
-const EMPTY: &str = "0c12002c040004000000000000000000000000000a000000000000110001\
-                     0000057fffffffffffffffffffff";
-
-// The grant of what it asks for.
-const GRANT: &str = "0c120038040004000000000000000000000000000a0000000000000100010000\
-                     057f0a00000000000011000100050008b0010000012c0001";
-
-// Its Delay_Req.
-const DELAY_REQ: &str = "0112002c040004000000000000000000000000000a000000000000110001\
-                         0007017f00000000000000000000";
-
-// The answer to it, at 1 s.
-const DELAY_RESP: &str = "09120036040004000000000000000000000000000a000000000000010001\
-                          0007037f000000000001000000000a000000000000110001";
-
-// The first Sync to a client, at 1 s.
-const SYNC: &str = "0012002c040004000000000000000000000000000a000000000000010001\
-                    0000007f00000000000100000000";
-
-fn arrival(alloc: Global, datagram: &str) -> Result<Arrival, Fail>
+// A datagram of the client of table 2.
+fn arrival(alloc: Global, head: &str, rest: &str) -> Result<Arrival, Fail>
     ensures { IfOk result (λ a. length a.bytes ≤ 2048) }
 {
-    let bytes = hex::decode(alloc, datagram)?;
+    let bytes = octets(alloc, head, "11", rest)?;
     if bytes.len() > 2048 {
         return Err(Fail::new("a datagram has at most 2048 octets"));
     }
@@ -52,10 +37,13 @@ fn arrival(alloc: Global, datagram: &str) -> Result<Arrival, Fail>
     })
 }
 
-// A port at which the Signaling without TLVs waits, and then the REQUEST. It fails at the listed
-// sends.
+// A port at which a Signaling without TLVs waits, and then a REQUEST of Announce at logarithm 1 for
+// 300 s, both to every port. It fails at the listed sends.
 fn port(alloc: Global, fails: Vec<u64>) -> Result<MemPort, Fail> {
-    let waiting = vec![in alloc; arrival(alloc, EMPTY)?, arrival(alloc, REQUEST)?]?;
+    let waiting = vec![in alloc;
+        arrival(alloc, "0c12002c", "0000057fffffffffffffffffffff")?,
+        arrival(alloc, "0c120036", "0000057fffffffffffffffffffff00040006b0010000012c")?,
+    ]?;
     let mut port = MemPort::new(alloc, waiting, fails, Vec::new(alloc));
     port.reserve(2, 2 * 64)?;
     Ok(port)
@@ -138,7 +126,12 @@ fn ask_twice<L: Rates, G: Ledger, R: Ledger, W: Wait + Abort>(
 ) -> Result<(), Fail>
     requires { L.parts ≡ 4 }
 {
-    let grant = hex::decode(alloc, GRANT)?;
+    let grant = octets(
+        alloc,
+        "0c120038",
+        "01",
+        "0000057f0a00000000000011000100050008b0010000012c0001",
+    )?;
     let mut first = port(alloc, Vec::new(alloc))?;
     ask_once(rt, alloc, shared, seats, &mut first, &grant);
     drop(first);
@@ -232,13 +225,13 @@ fn check_one(rt: &impl Abort, port: &MemPort, ip: u32, channel: Channel, bytes: 
     assert!(rt; port.sent(1).is_none());
 }
 
-// Table 1 sent a Sync, table 2 the answer, and the others nothing.
+// Table 1 sent its first Sync, table 2 the Delay_Resp, both at 1 s, and the others nothing.
 fn check_sent(rt: &impl Abort, alloc: Global, closed: &Closed<MemPort>) -> Result<(), Fail> {
-    let sync = hex::decode(alloc, SYNC)?;
-    let answer = hex::decode(alloc, DELAY_RESP)?;
+    let sync = octets(alloc, "0012002c", "01", "0000007f00000000000100000000")?;
+    let resp = octets(alloc, "09120036", "01", "0007037f000000000001000000000a000000000000110001")?;
     assert!(rt; closed.p0.sent(0).is_none() && closed.p3.sent(0).is_none());
     check_one(rt, &closed.p1, ONE.ip, Channel::Event, &sync);
-    check_one(rt, &closed.p2, TWO.ip, Channel::General, &answer);
+    check_one(rt, &closed.p2, TWO.ip, Channel::General, &resp);
     Ok(())
 }
 
@@ -252,7 +245,8 @@ fn send<L: Rates, G: Ledger, R: Ledger, W: Wait + Abort>(
     requires ledger { L.parts ≡ 4 }
     requires config { L.config ≡ sample_config }
 {
-    let waiting = vec![in alloc; arrival(alloc, DELAY_REQ)?]?;
+    let request = arrival(alloc, "0112002c", "0007017f00000000000000000000")?;
+    let waiting = vec![in alloc; request]?;
     let mut port = MemPort::new(alloc, waiting, Vec::new(alloc), Vec::new(alloc));
     grant_four(rt, shared, seats);
     let Turners { mut second, .. } = turner.share_out(2);

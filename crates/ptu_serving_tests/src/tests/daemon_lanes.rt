@@ -2,9 +2,8 @@ ghost use Rattle.std.specs.Prelude.{◌≡◌, None};
 ghost use Rattle.ptu_config.specs.Limits.{IsGmInRange};
 
 use super::staged::{Given, StagedPort, assert_said, late_delay_req, two_asks};
-use super::values::{capacity_of, clock_of, senders_of};
+use super::values::{clock_of, three_rounds};
 use ptu_config::GmSettings;
-use ptu_config::samples::GM_SETTINGS;
 use ptu_outside::samples::{OnceHost, still_clock};
 use ptu_outside::{Channel, Failed, MemClock, Opened, Port};
 use std::alloc::Global;
@@ -19,9 +18,7 @@ fn settings(rt: &impl Abort) -> GmSettings
 {
     GmSettings {
         rounds: 2,
-        capacity: capacity_of(rt, 32),
-        senders: senders_of(rt, 2),
-        ..GM_SETTINGS
+        ..three_rounds(rt, 32, 2)
     }
 }
 

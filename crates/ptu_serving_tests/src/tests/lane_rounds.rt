@@ -26,9 +26,8 @@ ghost use Rattle.std.specs.Prelude.{◌≤◌};
 ghost use Rattle.ptu_config.specs.Limits.{IsGmInRange};
 
 use super::staged::{Given, StagedPort, arriving, assert_said, put, still};
-use super::values::{capacity_of, clock_of, senders_of};
+use super::values::{capacity_of, clock_of, three_rounds};
 use ptu_config::GmSettings;
-use ptu_config::samples::GM_SETTINGS;
 use ptu_outside::samples::OnceHost;
 use ptu_outside::{Channel, Clock, MemClock, Opened};
 use std::alloc::Global;
@@ -36,18 +35,6 @@ use std::process::Abort;
 use std::sync::Wait;
 use std::test::Fail;
 use std::thread::Threads;
-
-// Three rounds of this capacity, by so many lanes that turn tables.
-fn three_rounds(rt: &impl Abort, sixteenths: u64, senders: u8) -> GmSettings
-    ensures { IsGmInRange result }
-{
-    GmSettings {
-        rounds: 3,
-        capacity: capacity_of(rt, sixteenths),
-        senders: senders_of(rt, senders.into()),
-        ..GM_SETTINGS
-    }
-}
 
 // A client: its address, and its sourcePortIdentity in digits.
 type Peer = (u32, &'static str);

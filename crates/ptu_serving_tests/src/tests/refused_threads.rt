@@ -10,9 +10,8 @@
 ghost use Rattle.ptu_config.specs.Limits.{IsGmInRange};
 
 use super::staged::{Given, StagedPort, late_delay_req, put, still, two_asks};
-use super::values::{capacity_of, clock_of, senders_of};
+use super::values::{capacity_of, clock_of, three_rounds};
 use ptu_config::GmSettings;
-use ptu_config::samples::GM_SETTINGS;
 use ptu_daemon::serve_within;
 use ptu_outside::samples::OnceHost;
 use ptu_outside::{Clock, MemClock, MemSink, Opened};
@@ -29,12 +28,9 @@ fn settings(rt: &impl Abort, senders: u8) -> GmSettings
     ensures { IsGmInRange result }
 {
     GmSettings {
-        rounds: 3,
-        capacity: capacity_of(rt, 32),
-        senders: senders_of(rt, senders.into()),
         change_round: 3,
         new_capacity: Some(capacity_of(rt, 16)),
-        ..GM_SETTINGS
+        ..three_rounds(rt, 32, senders)
     }
 }
 

@@ -1,10 +1,9 @@
 ghost use Rattle.ptu_config.specs.Limits.{IsGmInRange};
 
 use super::staged::{put, set_up};
-use super::values::{capacity_of, clock_after, senders_of};
+use super::values::{clock_after, three_rounds};
 use super::waiting::{CLIENT, SYNC, asking, grant, port};
 use ptu_config::GmSettings;
-use ptu_config::samples::GM_SETTINGS;
 use ptu_daemon::{Flags, TwoHost, serve, serve_in_two_steps};
 use ptu_outside::samples::{idle_port, opened_with};
 use ptu_outside::{Channel, MemClock, MemHost, MemPort, MemSink, Opened};
@@ -20,10 +19,8 @@ fn settings(rt: &impl Abort, senders: u8) -> GmSettings
 {
     GmSettings {
         rounds: 2,
-        capacity: capacity_of(rt, 16),
-        senders: senders_of(rt, senders.into()),
         two_step: true,
-        ..GM_SETTINGS
+        ..three_rounds(rt, 16, senders)
     }
 }
 

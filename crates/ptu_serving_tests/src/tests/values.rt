@@ -1,8 +1,11 @@
-//! Values of settings, and clocks, for tests.
+//! Values of settings, settings, and clocks, for tests.
 
 ghost use Rattle.std.specs.Prelude.{◌≡◌};
 ghost use Rattle.ptu_units.specs.Limits.{IsCapacity, IsSenders};
+ghost use Rattle.ptu_config.specs.Limits.{IsGmInRange};
 
+use ptu_config::GmSettings;
+use ptu_config::samples::GM_SETTINGS;
 use ptu_outside::MemClock;
 use ptu_units::{Capacity, Moment, Senders};
 use std::alloc::Global;
@@ -23,6 +26,18 @@ pub(crate) fn senders_of(rt: &impl Abort, lanes: u64) -> Senders
     ensures range { IsSenders result }
 {
     Senders::of(lanes).expect(rt, "there are four lanes at most")
+}
+
+/// Three rounds of this capacity, by so many lanes that turn tables.
+pub(crate) fn three_rounds(rt: &impl Abort, sixteenths: u64, senders: u8) -> GmSettings
+    ensures { IsGmInRange result }
+{
+    GmSettings {
+        rounds: 3,
+        capacity: capacity_of(rt, sixteenths),
+        senders: senders_of(rt, senders.into()),
+        ..GM_SETTINGS
+    }
 }
 
 fn moment(millis: u64) -> Result<Moment, Fail> {

@@ -1,10 +1,11 @@
 ghost use Rattle.std.specs.Prelude.{◌≡◌, ◌≤◌, ◌<◌, ℕ};
-ghost use Rattle.ptu_shared.specs.{Blanks.{IsBlankOf}, Opening.{idle_port, sample_config}, Turning.{AreTurnBlanks}};
+ghost use Rattle.ptu_shared.specs.{Blanks.{IsBlankOf}, Opening.{sample_config, untold_port}, Turning.{AreTurnBlanks}};
 
+use super::shared_held::{Call, Gate, HeldPort, closed_gate};
 use ptu_admit::samples::{Told, numbers_of};
 use ptu_admit::{Closed, InForce, Outside};
 use ptu_messages::Ask;
-use ptu_outside::{MemPort, Port, samples};
+use ptu_outside::Port;
 use ptu_shard::Answered;
 use ptu_shard::samples::{CONFIG, DELAY_REQ, SECOND, THREE, TWO};
 use ptu_shared::{Blanks, CloseFault, Rates, Seat, Shared, TablePorts, Turner};
@@ -110,7 +111,7 @@ enum Last {
 
 // Steps at their moments, the close after them, the shares that it counts, and the verdicts.
 #[derive(Clone, Copy)]
-struct Course {
+pub(crate) struct Course {
     steps: &'static [(u64, Step)],
     last: Last,
     shares: [u64; 4],
@@ -118,15 +119,15 @@ struct Course {
     refused: u64,
 }
 
-// Tables over ports in memory, and their seats.
+// Tables over ports that send nothing, and their seats.
 #[derive(Drop)]
-struct Site<L: Rates, G: Ledger, R: Ledger> {
-    shared: Shared<MemPort, L, G, R>,
-    seats: Vec<Seat<G, R>>,
-    turner: Turner<L>,
+pub(crate) struct Site<'g, L: Rates, G: Ledger, R: Ledger> {
+    pub shared: Shared<HeldPort<'g>, L, G, R>,
+    pub seats: Vec<Seat<G, R>>,
+    pub turner: Turner<L>,
 }
 
-impl<L: Rates, G: Ledger, R: Ledger> Site<L, G, R> {
+impl<'g, L: Rates, G: Ledger, R: Ledger> Site<'g, L, G, R> {
     // What a Delay_Req of the client of table 2 meets.
     fn delay(&self, rt: &impl Wait, at: Moment) -> Answered
         requires { L.config ≡ sample_config }
@@ -137,7 +138,7 @@ impl<L: Rates, G: Ledger, R: Ledger> Site<L, G, R> {
     // The capacity becomes 8, and one grant is shed.
     fn shed(&self, rt: &(impl Wait + Abort), at: Moment, client: Client)
         requires ledger { L.parts ≡ 4 }
-        requires most { 8 ≤ L.most }
+        requires most { 64 ≤ L.most }
     {
         let resized = self.shared.resize(rt, at, InForce::of(Capacity::SAMPLE));
         let resized = resized.expect(rt, "memory is found");
@@ -149,7 +150,7 @@ impl<L: Rates, G: Ledger, R: Ledger> Site<L, G, R> {
 
     fn take_step(&mut self, rt: &(impl Wait + Abort), t: u64, step: Step)
         requires ledger { L.parts ≡ 4 }
-        requires most { 8 ≤ L.most }
+        requires most { 64 ≤ L.most }
         requires config { L.config ≡ sample_config }
     {
         let at = moment(rt, t);
@@ -183,7 +184,7 @@ impl<L: Rates, G: Ledger, R: Ledger> Site<L, G, R> {
 
     fn take_steps(&mut self, rt: &(impl Wait + Abort), steps: &[(u64, Step)])
         requires ledger { L.parts ≡ 4 }
-        requires most { 8 ≤ L.most }
+        requires most { 64 ≤ L.most }
         requires config { L.config ≡ sample_config }
     {
         for &(t, step) in steps {
@@ -192,7 +193,7 @@ impl<L: Rates, G: Ledger, R: Ledger> Site<L, G, R> {
     }
 
     // Closes with all seats.
-    fn close(self, rt: &impl Abort) -> Closed<MemPort>
+    fn close(self, rt: &impl Abort) -> Closed<HeldPort<'g>>
         requires { (L.parts ≡ 4) × (G.parts ≡ L.seats) × (R.parts ≡ L.seats) }
     {
         match self.shared.close(self.seats) {
@@ -202,7 +203,12 @@ impl<L: Rates, G: Ledger, R: Ledger> Site<L, G, R> {
     }
 
     // Closes without the last seat, which is refused, and then with all.
-    fn close_late(self, rt: &impl Abort, all: (u64, u64), others: (u64, u64)) -> Closed<MemPort>
+    fn close_late(
+        self,
+        rt: &impl Abort,
+        all: (u64, u64),
+        others: (u64, u64),
+    ) -> Closed<HeldPort<'g>>
         requires { (L.parts ≡ 4) × (G.parts ≡ L.seats) × (R.parts ≡ L.seats) }
     {
         let Site {
@@ -235,7 +241,7 @@ impl<L: Rates, G: Ledger, R: Ledger> Site<L, G, R> {
     // Takes the steps, closes, and compares what is counted.
     fn run(self, rt: &(impl Wait + Abort), course: &Course)
         requires ledgers { (L.parts ≡ 4) × (G.parts ≡ L.seats) × (R.parts ≡ L.seats) }
-        requires most { 8 ≤ L.most }
+        requires most { 64 ≤ L.most }
         requires config { L.config ≡ sample_config }
     {
         let mut site = self;
@@ -323,7 +329,7 @@ fn a_lower_capacity_sheds_the_newest(rt: HostRuntime) -> Result<(), Fail> {
 // The client asks for Announces from a seat of its own, which is handed back.
 fn ask_from<L: Rates, G: Ledger, R: Ledger, W: Wait + Abort>(
     rt: &W,
-    shared: &Shared<MemPort, L, G, R>,
+    shared: &Shared<HeldPort<'_>, L, G, R>,
     mut seat: Seat<G, R>,
     client: &Client,
 ) -> (Told, Seat<G, R>)
@@ -336,7 +342,7 @@ fn ask_from<L: Rates, G: Ledger, R: Ledger, W: Wait + Abort>(
 // Two threads ask for what is there once, each from its own seat. Gives the answers.
 fn ask_at_once<L, G, R, W>(
     rt: &W,
-    shared: &Shared<MemPort, L, G, R>,
+    shared: &Shared<HeldPort<'_>, L, G, R>,
     seats: &mut Vec<Seat<G, R>>,
 ) -> (Told, Told)
 where
@@ -362,7 +368,7 @@ where
     (a.0, b.0)
 }
 
-fn ask_from_two_seats<L, G, R, W>(rt: &W, site: Site<L, G, R>)
+fn ask_from_two_seats<L, G, R, W>(rt: &W, site: Site<'_, L, G, R>)
 where
     L: Rates + Sync,
     G: Ledger + Sync,
@@ -417,18 +423,25 @@ fn a_seat_that_has_counted_nothing_is_not_missed(rt: HostRuntime) -> Result<(), 
 
 // What is done with shared tables and their seats.
 #[derive(Clone, Copy)]
-enum Scene {
+pub(crate) enum Scene {
     Course(Course),
     TwoThreads,
+    // The port of table 0 is held in a turn, and beside it table 1 takes a turn, or a call waits.
+    Held(Option<Call>),
+    // A wait ends where the first Sync of the client is due.
+    WaitForSync(Client),
+    // A port is held in a wait, and beside it clients ask.
+    WaitAndAsk,
 }
 
-// Plays the scene with tables over ports in memory, whatever the ledgers are.
+// Plays the scene with this gate, whatever the ledgers are.
 fn play<L, G, R, W>(
     rt: &W,
     alloc: Global,
     blanks: Blanks,
     capacity: Capacity,
     seats: usize,
+    gate: &Gate,
     scene: Scene,
 ) -> Result<(), Fail>
 where
@@ -441,16 +454,24 @@ where
     requires refused { IsBlankOf R.name R.parts L.seats blanks.refused }
     requires turns { AreTurnBlanks L.turns blanks.turns }
     requires opening { capacity ≡ L.opening }
-    requires most { (capacity ≤ L.most) × (8 ≤ L.most) }
+    requires most { (capacity ≤ L.most) × (64 ≤ L.most) }
     requires config { L.config ≡ sample_config }
     requires seats { (1 ≤ seats) × (seats ≤ 64) × (seats ≡ L.seats) }
-    requires ports { (i : ℕ) → L.opened i ≡ idle_port }
+    requires ports { (i : ℕ) → L.opened i ≡ untold_port }
 {
-    let (p0, p1) = (samples::idle_port(alloc), samples::idle_port(alloc));
-    let (p2, p3) = (samples::idle_port(alloc), samples::idle_port(alloc));
-    let ports = TablePorts { p0, p1, p2, p3 };
+    let held = match scene {
+        Scene::Held(_) => Some(gate),
+        _ => None,
+    };
+    let ports = TablePorts {
+        p0: HeldPort::at(held),
+        p1: HeldPort::at(None),
+        p2: HeldPort::at(None),
+        p3: HeldPort::at(None),
+    };
     let (ledgers, turner) = blanks.open::<L>();
-    let (shared, seats) = Shared::<MemPort, L, G, R>::new(alloc, ledgers, capacity, seats, ports)?;
+    let made = Shared::<HeldPort<'_>, L, G, R>::new(alloc, ledgers, capacity, seats, ports);
+    let (shared, seats) = made?;
     let site = Site {
         shared,
         seats,
@@ -459,22 +480,25 @@ where
     match scene {
         Scene::Course(course) => site.run(rt, &course),
         Scene::TwoThreads => ask_from_two_seats(rt, site),
+        Scene::Held(call) => site.hold_table(rt, gate, call),
+        Scene::WaitForSync(client) => site.wait_for_sync(rt, &client),
+        Scene::WaitAndAsk => site.wait_and_ask(rt, gate),
     }
     Ok(())
 }
 
 // Plays the scene with this capacity and so many seats.
-fn run<W: Wait + Abort + Threads + Sync>(
+pub(crate) fn run<W: Wait + Abort + Threads + Sync>(
     rt: &W,
     alloc: Global,
     sixteenths: u64,
     seats: usize,
     scene: Scene,
 ) -> Result<(), Fail>
-    requires capacity { 8 ≤ sixteenths }
-    requires seats { (1 ≤ seats) × (seats ≤ 64) }
+    requires { (1 ≤ seats) × (seats ≤ 64) }
 {
     let blanks = Blanks::of_seats(seats);
     let capacity = capacity(rt, sixteenths);
-    play::<Brand, Brand, Brand, W>(rt, alloc, blanks, capacity, seats, scene)
+    let gate = closed_gate();
+    play::<Brand, Brand, Brand, W>(rt, alloc, blanks, capacity, seats, &gate, scene)
 }

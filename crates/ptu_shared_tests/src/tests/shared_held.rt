@@ -1,14 +1,13 @@
-ghost use Rattle.std.specs.Prelude.{◌≡◌, ◌≤◌, ℕ, None};
-ghost use Rattle.ptu_shared.specs.{Blanks.{IsBlankOf}, Opening.{sample_config, untold_port}, Turning.{AreTurnBlanks}};
+ghost use Rattle.std.specs.Prelude.{◌≡◌, ◌≤◌, None};
+ghost use Rattle.ptu_shared.specs.Opening.{sample_config};
 
-use super::shared::{ANNOUNCE, GRANTED, GRANTED_LATER, SYNC, ask, capacity, moment, turn};
+use super::shared::{ANNOUNCE, GRANTED, GRANTED_LATER, SYNC};
+use super::shared::{Scene, Site, ask, capacity, moment, run, turn};
 use ptu_admit::InForce;
 use ptu_outside::{Channel, Failed, Port};
 use ptu_shard::samples::{ONE, SECOND, THREE, TWO, ZERO};
-use ptu_shared::{Blanks, Rates, Seat, Shared, TablePorts, Turner, Turners};
-use ptu_units::{Capacity, Kind, Moment};
-use std::alloc::Global;
-use std::marker::Brand;
+use ptu_shared::{Rates, Seat, Shared, Turner, Turners};
+use ptu_units::{Kind, Moment};
 use std::process::Abort;
 use std::sync::Wait;
 use std::sync::atomic::{AtomicU64, Ordering};
@@ -83,15 +82,17 @@ impl Gate {
     }
 }
 
-// A port that sends nothing, and is held in each send and each wait where it has a gate.
+// A port that sends nothing, and is held in each send and each wait where it has a gate. It notes
+// until when it was last to wait.
 #[derive(Drop)]
 pub(crate) struct HeldPort<'a> {
     gate: Option<&'a Gate>,
+    pub until: u64,
 }
 
 impl<'a> HeldPort<'a> {
     pub fn at(gate: Option<&'a Gate>) -> HeldPort<'a> {
-        HeldPort { gate }
+        HeldPort { gate, until: 0 }
     }
 
     // Until its gate opens, or so many looks at it are over.
@@ -119,14 +120,15 @@ impl Port for HeldPort<'_> {
         Ok(None)
     }
 
-    fn wait(&mut self, _until: Moment) {
+    fn wait(&mut self, until: Moment) {
+        self.until = until.nanos();
         self.hold(LOOKS / 10);
     }
 }
 
 // What wants table 0.
 #[derive(Clone, Copy)]
-enum Call {
+pub(crate) enum Call {
     Cancel,
     // An ask of its own client, which fits.
     Ask,
@@ -271,67 +273,42 @@ impl<L: Rates + Sync, G: Ledger + Sync, R: Ledger + Sync> Held<'_, '_, L, G, R> 
     }
 }
 
-// Plays this with two seats, whatever the ledgers are.
-fn play_held<L, G, R, W>(
-    rt: &W,
-    alloc: Global,
-    blanks: Blanks,
-    capacity: Capacity,
-    gate: &Gate,
-    call: Option<Call>,
-) -> Result<(), Fail>
-where
-    L: Rates + Sync,
-    G: Ledger + Sync,
-    R: Ledger + Sync,
-    W: Wait + Abort + Threads + Sync,
-    requires rates { IsBlankOf L.name L.parts 4 blanks.rates }
-    requires granted { IsBlankOf G.name G.parts L.seats blanks.granted }
-    requires refused { IsBlankOf R.name R.parts L.seats blanks.refused }
-    requires turns { AreTurnBlanks L.turns blanks.turns }
-    requires opening { capacity ≡ L.opening }
-    requires most { (capacity ≤ L.most) × (64 ≤ L.most) }
-    requires config { L.config ≡ sample_config }
-    requires seats { L.seats ≡ 2 }
-    requires ports { (i : ℕ) → L.opened i ≡ untold_port }
-{
-    let p0 = HeldPort { gate: Some(gate) };
-    let p1 = HeldPort { gate: None };
-    let p2 = HeldPort { gate: None };
-    let p3 = HeldPort { gate: None };
-    let ports = TablePorts { p0, p1, p2, p3 };
-    let (ledgers, turner) = blanks.open::<L>();
-    let (shared, seats) = Shared::<HeldPort<'_>, L, G, R>::new(alloc, ledgers, capacity, 2, ports)?;
-    let held = Held {
-        shared: &shared,
-        gate,
-    };
-    held.turn_and_call(rt, seats, turner, call);
-    drop(shared);
-    Ok(())
-}
-
-fn hold_beside<W: Wait + Abort + Threads + Sync>(
-    rt: &W,
-    alloc: Global,
-    call: Option<Call>,
-) -> Result<(), Fail> {
-    let blanks = Blanks::of_seats(2);
-    let gate = closed_gate();
-    let capacity = capacity(rt, 64);
-    play_held::<Brand, Brand, Brand, W>(rt, alloc, blanks, capacity, &gate, call)
+impl<'g, L: Rates + Sync, G: Ledger + Sync, R: Ledger + Sync> Site<'g, L, G, R> {
+    // Plays this with two seats, where the port of table 0 has the gate.
+    pub(crate) fn hold_table<W: Wait + Abort + Threads + Sync>(
+        self,
+        rt: &W,
+        gate: &'g Gate,
+        call: Option<Call>,
+    )
+        requires ledger { L.parts ≡ 4 }
+        requires most { 64 ≤ L.most }
+        requires config { L.config ≡ sample_config }
+    {
+        let Site {
+            shared,
+            seats,
+            turner,
+        } = self;
+        let held = Held {
+            shared: &shared,
+            gate,
+        };
+        held.turn_and_call(rt, seats, turner, call);
+        drop(shared);
+    }
 }
 
 #[test]
 fn a_turn_goes_on_beside_a_held_table(rt: HostRuntime) -> Result<(), Fail> {
-    hold_beside(&rt, rt.alloc(), None)
+    run(&rt, rt.alloc(), 64, 2, Scene::Held(None))
 }
 
 // Nothing that waits for table 0 holds another table or the book.
 #[test]
 fn an_ask_goes_on_beside_a_held_table(rt: HostRuntime) -> Result<(), Fail> {
     for call in CALLS {
-        hold_beside(&rt, rt.alloc(), Some(call))?;
+        run(&rt, rt.alloc(), 64, 2, Scene::Held(Some(call)))?;
     }
     Ok(())
 }

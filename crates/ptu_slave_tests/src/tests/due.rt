@@ -3,7 +3,7 @@
 
 ghost use Rattle.std.specs.Prelude.{IfOk};
 
-use super::slave::{SECOND, config, slave_of_one};
+use super::slave::{ANNOUNCE, MASTER, SECOND, SYNC, config, slave_of_one};
 use ptu_judges::FlagJudge;
 use ptu_outside::MemPort;
 use ptu_outside::samples::idle_port;
@@ -14,39 +14,24 @@ use std::alloc::Global;
 use std::process::Abort;
 use std::test::Fail;
 
-const MASTER: u32 = 0x0a00_0001;
-
 // The last moment that there is.
 const LAST: u64 = (1 << 62) - 1;
 
 // The master grants Announce and Sync for 300 seconds.
-const TWO_GRANTS: &str = "0c120044040004000000000000000000000000000a00000000000001\
-     00010000057f0a00000000000021000100050008b0010000012c0001\
-     0005000800000000012c0001";
+const TWO_GRANTS: &str = "00050008b0010000012c00010005000800000000012c0001";
 
 // It grants Delay_Resp beside them, for 300 seconds; and for 2.
-const THREE_GRANTS: &str = "0c120050040004000000000000000000000000000a00000000000001\
-     00010000057f0a00000000000021000100050008b0010000012c0001\
-     0005000800000000012c00010005000890000000012c0001";
+const THREE_GRANTS: &str =
+    "00050008b0010000012c00010005000800000000012c00010005000890000000012c0001";
 
-const SHORT_GRANT: &str = "0c120050040004000000000000000000000000000a00000000000001\
-     00010000057f0a00000000000021000100050008b0010000012c0001\
-     0005000800000000012c0001000500089000000000020001";
+const SHORT_GRANT: &str =
+    "00050008b0010000012c00010005000800000000012c0001000500089000000000020001";
 
 // It grants Announce for 300 seconds, and denies Sync.
-const GRANT_AND_DENIAL: &str = "0c120044040004000000000000000000000000000a00000000000001\
-     00010000057f0a00000000000021000100050008b0010000012c0001\
-     000500080000000000000001";
+const GRANT_AND_DENIAL: &str = "00050008b0010000012c0001000500080000000000000001";
 
 // It cancels Sync.
-const CANCEL: &str = "0c120032040004000000000000000000000000000a00000000000001\
-     00010001057f0a000000000000210001000600020000";
-
-const ANNOUNCE: &str = "0b120040040004000000000000000000000000000a00000000000001\
-     00010000057f00000000000000000000000000805400ffff800a000000000000010000a0";
-
-const SYNC: &str = "0012002c040004000000000000000000000000000a00000000000001\
-     00010000007f00000000000000000000";
+const CANCEL: &str = "000600020000";
 
 const DELAY_RESP: &str = "09120036040004000000000000000000000000000a00000000000001\
      00010000037f000000000000000000000a000000000000210001";
@@ -73,6 +58,8 @@ enum Deed {
     Tick,
     // A datagram of the master comes.
     Hears(&'static str),
+    // Its Signaling comes, with this sequenceId and these TLVs.
+    Signals(u16, &'static str),
     Stop,
 }
 
@@ -85,7 +72,7 @@ const PLAIN: [Row; 14] = [
     (0, Deed::Tick, SECOND),
     (SECOND, Deed::Tick, 2 * SECOND),
     (2 * SECOND, Deed::Tick, 62 * SECOND),
-    (3 * SECOND, Deed::Hears(TWO_GRANTS), 153 * SECOND),
+    (3 * SECOND, Deed::Signals(0, TWO_GRANTS), 153 * SECOND),
     (4 * SECOND, Deed::Hears(ANNOUNCE), 10 * SECOND + 1),
     (4 * SECOND, Deed::Hears(SYNC), 7 * SECOND + 1),
     (8 * SECOND, Deed::Tick, 10 * SECOND + 1),
@@ -103,16 +90,16 @@ const REFUSED: [Row; 3] = [
     (0, Deed::Tick, SECOND),
     (
         SECOND / 2,
-        Deed::Hears(GRANT_AND_DENIAL),
+        Deed::Signals(0, GRANT_AND_DENIAL),
         60 * SECOND + SECOND / 2,
     ),
-    (SECOND, Deed::Hears(CANCEL), 61 * SECOND),
+    (SECOND, Deed::Signals(1, CANCEL), 61 * SECOND),
 ];
 
 // Delay_Reqs, one a second.
 const PROBED: [Row; 4] = [
     (0, Deed::Tick, SECOND),
-    (3 * SECOND, Deed::Hears(THREE_GRANTS), 4 * SECOND),
+    (3 * SECOND, Deed::Signals(0, THREE_GRANTS), 4 * SECOND),
     (4 * SECOND + 7, Deed::Tick, 5 * SECOND + 7),
     (4 * SECOND + 8, Deed::Hears(DELAY_RESP), 5 * SECOND + 7),
 ];
@@ -120,7 +107,7 @@ const PROBED: [Row; 4] = [
 // A grant of Delay_Resp that ends, after which no Delay_Req is due; then the loss of Delay_Resp.
 const ENDED: [Row; 7] = [
     (0, Deed::Tick, SECOND),
-    (3 * SECOND, Deed::Hears(SHORT_GRANT), 4 * SECOND),
+    (3 * SECOND, Deed::Signals(0, SHORT_GRANT), 4 * SECOND),
     (4 * SECOND, Deed::Tick, 5 * SECOND),
     (4 * SECOND, Deed::Hears(DELAY_RESP), 5 * SECOND),
     (5 * SECOND, Deed::Tick, 6 * SECOND),
@@ -128,19 +115,30 @@ const ENDED: [Row; 7] = [
     (8 * SECOND, Deed::Tick, 66 * SECOND),
 ];
 
+// A Signaling of the master to the slave.
+fn signaling(alloc: Global, sequence: u16, tlvs: &str) -> Result<Vec<u8>, Fail> {
+    let length = 44 + tlvs.len() / 2;
+    let digits = format!(in alloc;
+        "0c12{length:04x}040004000000000000000000000000000a000000000000010001\
+         {sequence:04x}057f0a000000000000210001{tlvs}"
+    )?;
+    Ok(hex::decode(alloc, digits.as_str())?)
+}
+
 fn do_deed(alloc: Global, slave: &mut Slave<MemPort>, at: Moment, deed: Deed) -> Result<(), Fail> {
-    match deed {
+    let octets = match deed {
         Deed::Tick => {
             slave.tick(at);
-        }
-        Deed::Hears(digits) => {
-            let octets = hex::decode(alloc, digits)?;
-            slave.take(alloc, at, MASTER, &octets)?;
+            return Ok(());
         }
         Deed::Stop => {
             slave.stop(at);
+            return Ok(());
         }
-    }
+        Deed::Hears(digits) => hex::decode(alloc, digits)?,
+        Deed::Signals(sequence, tlvs) => signaling(alloc, sequence, tlvs)?,
+    };
+    slave.take(alloc, at, MASTER, &octets)?;
     Ok(())
 }
 

@@ -1,6 +1,6 @@
 use Rattle.std.proofs.Common.{sym, subst, All}
 use Rattle.ptu_messages.specs.TlvsSent.{IsSendable}
-use Rattle.ptu_slave_messages.specs.Sending.{kinds_in}
+use Rattle.ptu_record.specs.Kinds.{kinds_in}
 use Rattle.ptu_slave_messages.proofs.Codes.{requests_sendable}
 use Rattle.ptu_slave_messages.proofs.sending.send_requests.Goals as goal
 

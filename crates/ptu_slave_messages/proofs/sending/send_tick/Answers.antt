@@ -1,7 +1,7 @@
 use Rattle.std.proofs.{Common.{map}, lemmas.List.{map-append}}
 use Rattle.std.specs.Option.{option_map, option_to_list}
-use Rattle.ptu_record.specs.Tick.{Requests, DelayReq, one_signaling}
-use Rattle.ptu_slave_messages.specs.Sending.{departure_to, kinds_in}
+use Rattle.ptu_record.specs.{Kinds.{kinds_in}, Tick.{Requests, DelayReq, one_signaling}}
+use Rattle.ptu_slave_messages.specs.Sending.{departure_to}
 use Rattle.ptu_profile.specs.Target.{all_ones}
 use Rattle.ptu_outside.proofs.HandsOver.{hands-append}
 use Rattle.ptu_slave_messages.proofs.sending.send_tick.Goals as goal

@@ -1,7 +1,6 @@
 use Rattle.std.proofs.Common.{◌≡◌, ◌∙◌, ◌+◌, ◌≤◌, arith, subst}
-use Rattle.std.specs.Prelude.{unwrap_or}
 use Rattle.ptu_config.specs.Rounds.{all_rounds}
-use Rattle.ptu_daemon.specs.Obeying.{DidAll, DidWhole}
+use Rattle.ptu_daemon.specs.Obeying.{DidAll}
 use Rattle.ptu_daemon.proofs.daemon.Daemon.rounds.Goals as goal
 use Rattle.ptu_daemon.proofs.Rounds.{all_done, ended, going_more, going_none}
 
@@ -12,22 +11,16 @@ pub returns-then-done : goal.returns-then-done
 returns-then-done g c =
     let now = c.loop-before in
     let new = c.round_obeying.new in
-    let done = c.in_ok-done.done in
-    let did : DidWhole g.P.Port g.C.Clock c.args.settings.now (unwrap_or c.args.settings.now.control_key 0) now.before now.tally now.self new.self now.control new.control done =
-    subst (λ key. DidWhole g.P.Port g.C.Clock c.args.settings.now key now.before now.tally now.self new.self now.control new.control done) c.unwrap_or-key.ensures c.in_ok-done.ensures.did in
     let all : now.before + 1 ≤ all_rounds c.args.settings.now = omega (arith, c.loop-before-test.true, c.all_rounds-all.ensures.value) in
-    ended g.P.Port g.C.Clock c.args.settings.now now.before c.args.self.now now.self new.self c.args.control.now now.control new.control now.tally done
-    now.invariant did c.if-done.true all
+    ended g.P.Port g.C.Clock c.args.settings.now now.before c.args.self.now now.self new.self c.args.control.now now.control new.control now.tally c.in_ok-done.done
+    now.invariant (rw c.unwrap_or-key.ensures at c.in_ok-done.ensures.did) c.if-done.true all
 
 pub loop-before-preserved : goal.loop-before-preserved
 loop-before-preserved g c =
     let now = c.loop-before in
     let new = c.round_obeying.new in
-    let done = c.in_ok-done.done in
-    let did : DidWhole g.P.Port g.C.Clock c.args.settings.now (unwrap_or c.args.settings.now.control_key 0) now.before now.tally now.self new.self now.control new.control done =
-    subst (λ key. DidWhole g.P.Port g.C.Clock c.args.settings.now key now.before now.tally now.self new.self now.control new.control done) c.unwrap_or-key.ensures c.in_ok-done.ensures.did in
-    going_more g.P.Port g.C.Clock c.args.settings.now now.before c.args.self.now now.self new.self c.args.control.now now.control new.control now.tally done
-    now.invariant did c.if-done.false c.in_ok-done.ensures.small
+    going_more g.P.Port g.C.Clock c.args.settings.now now.before c.args.self.now now.self new.self c.args.control.now now.control new.control now.tally c.in_ok-done.done
+    now.invariant (rw c.unwrap_or-key.ensures at c.in_ok-done.ensures.did) c.if-done.false c.in_ok-done.ensures.small
 
 pub returns : goal.returns
 returns g c =

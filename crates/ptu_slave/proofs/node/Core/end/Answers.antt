@@ -3,7 +3,7 @@ use Rattle.std.proofs.lemmas.Option.{slice_get_read}
 use Rattle.ptu_record.specs.Record.{record_of, Cancelled, Signalled}
 use Rattle.ptu_record.specs.Tick.{Cancels, one_signaling}
 use Rattle.ptu_requester.specs.Requester.{StandsFor}
-use Rattle.ptu_slave_messages.specs.Sending.{are_some, kinds_in}
+use Rattle.ptu_record.specs.Kinds.{are_some, kinds_in}
 use Rattle.ptu_slave.specs.Kept.{CountFor}
 use Rattle.ptu_slave.proofs.{Entering.{cancel_entries, own_signalled}, Masters.{each_own}}
 use Rattle.ptu_slave.proofs.node.Core.end.Goals as goal

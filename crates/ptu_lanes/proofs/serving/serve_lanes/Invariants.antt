@@ -3,7 +3,7 @@
 use Rattle.std.specs.Prelude.{is_some}
 use Rattle.ptu_shared.specs.Turning.{turn_name}
 use Rattle.ptu_lanes.specs.{Orders.{peak_ordered}, Served.{seen_at}}
-use Rattle.ptu_lanes.proofs.serving.serve_lanes_within.Given as goal
+use Rattle.ptu_lanes.proofs.serving.serve_lanes.Given as goal
 
 abbrev pub ghosts-serve_under-L-Ledger : goal.ghosts-serve_under-L-Ledger
 ghosts-serve_under-L-Ledger g a = record { name = a.blanks.rates.name; parts = a.blanks.rates.parts }

@@ -3,7 +3,7 @@
 ghost use Rattle.std.specs.Prelude.{◌≡◌};
 
 /// Some of the kinds of message, each or none.
-#[derive(Clone, Copy)]
+#[derive(Clone, Copy, Debug, PartialEq, Eq)]
 pub struct Kinds {
     pub announce: bool,
     pub sync: bool,
@@ -11,7 +11,7 @@ pub struct Kinds {
 }
 
 impl Kinds {
-    ghost use Rattle.ptu_slave_messages.specs.Sending.{are_some, kinds_in};
+    ghost use Rattle.ptu_record.specs.Kinds.{are_some, kinds_in};
 
     /// Whether there is one at least.
     pub fn any(self) -> bool
