@@ -118,16 +118,11 @@ fn put_capacity(grandmaster: u32, capacity: u64, at: Moment, line: &mut LineText
         ≡ statement_text (statements.Capacity grandmaster capacity at) ++ line.old.text }
     ensures room { line.old.room ≤ line.new.room + 80 }
 {
-    put_words(
-        &[
-            Word::Name("capacity"),
-            Word::Address(grandmaster),
-            Word::Number(capacity),
-            Word::Name("at"),
-            Word::Number(at.nanos()),
-        ],
-        line,
-    );
+    line.put_number(at.nanos());
+    line.put_str(" at ");
+    line.put_number(capacity);
+    line.put_str(" ");
+    put_words(&[Word::Name("capacity"), Word::Address(grandmaster)], line);
 }
 
 // Puts a grant that was shed before what stands.
@@ -141,16 +136,10 @@ fn put_shed(kind: Kind, log: Log, client: &Client, line: &mut LineText)
         clock: client.clock,
         port: client.port,
     };
-    put_words(
-        &[
-            Word::Name("shed"),
-            Word::Kind(kind),
-            Word::Log(log.value()),
-            Word::Address(client.ip),
-            Word::Identity(identity),
-        ],
-        line,
-    );
+    put_words(&[Word::Address(client.ip), Word::Identity(identity)], line);
+    line.put_str(" ");
+    put_words(&[Word::Kind(kind), Word::Log(log.value())], line);
+    line.put_str("shed ");
 }
 
 // Puts what a slave selects before what stands, piece by piece, since there are many.
