@@ -1,7 +1,7 @@
 //! All that a line of a report may say after its number, and how it is written.
 
-ghost use Rattle.std.specs.{Prelude.{◌≡◌, ◌≤◌, ◌+◌, ◌++◌, ◌∷◌, OnOk}, Fmt.{decimal}};
-ghost use Rattle.ptu_report_lines.specs.{Report.{line_text}, Statements.{statement_text}};
+ghost use Rattle.std.specs.{Prelude.{◌≡◌, ◌≤◌, ◌+◌, ◌++◌, ◌∷◌, [], length, OnOk}, Fmt.{decimal}};
+ghost use Rattle.ptu_report_lines.specs.{Report.{line_text}, Statements.{statement_text, words_text}};
 ghost use Rattle.ptu_report_lines.specs.declared.report_line.ReportLine.TheVariants as lines;
 ghost use Rattle.ptu_report_lines.specs.declared.statement.Statement.TheVariants as statements;
 
@@ -74,9 +74,9 @@ impl Statement {
         match self {
             Statement::Decided(decision) => decision.put(&mut line),
             Statement::Asked(answer) => answer.put(&mut line),
-            Statement::Heard(hearing) => put_heard(*hearing, &mut line),
+            Statement::Heard(hearing) => put_named("heard", *hearing, &mut line),
             Statement::Received(received) => received.put(&mut line),
-            Statement::Ignored(reason) => put_ignored(*reason, &mut line),
+            Statement::Ignored(reason) => put_named("ignored", *reason, &mut line),
             Statement::Capacity {
                 grandmaster,
                 capacity,
@@ -93,7 +93,7 @@ impl Statement {
                 .put(draft);
             }
             Statement::Selected { slave, master } => put_selected(*slave, *master, &mut line),
-            Statement::Bad(cause) => put_bad(*cause, &mut line),
+            Statement::Bad(cause) => put_named("bad", *cause, &mut line),
         }
         finish(number, &mut line, draft)
     }
@@ -155,32 +155,13 @@ fn put_selected(slave: u32, master: Option<u32>, line: &mut LineText)
     line.put_str("selected ");
 }
 
-// Puts what a slave heard before what stands.
-fn put_heard(hearing: Hearing, line: &mut LineText)
-    requires { 86 ≤ line.old.room }
-    ensures text { line.new.text ≡ statement_text (statements.Heard hearing) ++ line.old.text }
-    ensures room { line.old.room ≤ line.new.room + 86 }
+// Puts a word, and a part of the line behind it, before what stands.
+fn put_named<P: LinePart>(name: &'static str, part: P, line: &mut LineText)
+    requires { length name.now + 1 + P.most part ≤ line.old.room }
+    ensures text { line.new.text ≡ words_text (name.now ∷ P.text part ∷ []) ++ line.old.text }
+    ensures room { line.old.room ≤ line.new.room + length name.now + 1 + P.most part }
 {
-    hearing.put(line);
-    line.put_str("heard ");
-}
-
-// Puts that a datagram was ignored before what stands.
-fn put_ignored(reason: Reason, line: &mut LineText)
-    requires { 94 ≤ line.old.room }
-    ensures text { line.new.text ≡ statement_text (statements.Ignored reason) ++ line.old.text }
-    ensures room { line.old.room ≤ line.new.room + 94 }
-{
-    reason.put(line);
-    line.put_str("ignored ");
-}
-
-// Puts that the script's line is refused before what stands.
-fn put_bad(cause: Cause, line: &mut LineText)
-    requires { 13 ≤ line.old.room }
-    ensures text { line.new.text ≡ statement_text (statements.Bad cause) ++ line.old.text }
-    ensures room { line.old.room ≤ line.new.room + 13 }
-{
-    cause.put(line);
-    line.put_str("bad ");
+    part.put(line);
+    line.put_str(" ");
+    line.put_str(name);
 }
