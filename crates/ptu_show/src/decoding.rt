@@ -6,13 +6,13 @@ ghost use Rattle.ptu_show.specs.Datagram.{datagram_text};
 ghost use Rattle.ptu_show.specs.Shown.{numbered_line, shown_lines, show_rules, HasShowCause, HasShown};
 
 use crate::datagram::MessageText;
-use crate::fault::LabFault;
+use crate::fault::{LabFault, ShowStepped};
 use crate::lines::ShowLine;
 use crate::reading::read_datagram;
 use ptu_lines::LineCause;
 use ptu_messages::{MessageFault, read_message};
 use ptu_outside::{Sink, Source};
-use ptu_report::{Reporter, Stepped, Texts, run};
+use ptu_report::{Reporter, Texts, run};
 use ptu_script::Cause;
 use ptu_texts::FaultText;
 use ptu_units::sizes::LONGEST_DATAGRAM;
@@ -63,13 +63,7 @@ impl Reporter for Decoder {
     ghost stands_for = { λ _ _. Unit {0} };
 
     #[inline(always)]
-    fn take(
-        &mut self,
-        alloc: Global,
-        number: u64,
-        line: &[u8],
-        texts: &mut Texts,
-    ) -> Stepped<Cause> {
+    fn take(&mut self, alloc: Global, number: u64, line: &[u8], texts: &mut Texts) -> ShowStepped {
         match read_datagram(line, &mut self.room) {
             Ok(None) => Ok(None),
             Ok(Some(size)) => {
@@ -80,7 +74,7 @@ impl Reporter for Decoder {
         }
     }
 
-    fn close(&mut self, _: Global, lines: u64, texts: &mut Texts) -> Stepped<Cause> {
+    fn close(&mut self, _: Global, lines: u64, texts: &mut Texts) -> ShowStepped {
         texts.add_text(&ShowLine::End { lines })?;
         Ok(None)
     }

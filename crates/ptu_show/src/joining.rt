@@ -7,7 +7,7 @@ ghost use Rattle.ptu_show.specs.Joined.{half_text, halves_of, join_rules};
 ghost use Rattle.ptu_show.specs.Joined.{joined_lines, text_behind, HasJoined, HasJoinCause};
 ghost use Rattle.ptu_show.specs.{Shown.{numbered_line}, Waiting.{IsHalf, StandsFor}};
 
-use crate::fault::JoinFault;
+use crate::fault::{JoinFault, JoinStepped};
 use crate::half::Half;
 use crate::halving::read_half;
 use crate::join_lines::JoinLine;
@@ -16,7 +16,7 @@ use crate::waiting::Waiting;
 use ptu_lines::LineCause;
 use ptu_messages::write_fixed;
 use ptu_outside::{Sink, Source};
-use ptu_report::{Reporter, Stepped, Texts, run};
+use ptu_report::{Reporter, Texts, run};
 use ptu_script::Cause;
 use ptu_texts::OctetsText;
 use ptu_units::OutOfMemory;
@@ -104,13 +104,7 @@ impl Reporter for Joiner {
     ghost stands_for = { λ joiner past. StandsFor joiner.waiting.kept (halves_of past) };
 
     #[inline(always)]
-    fn take(
-        &mut self,
-        alloc: Global,
-        number: u64,
-        line: &[u8],
-        texts: &mut Texts,
-    ) -> Stepped<LineCause> {
+    fn take(&mut self, alloc: Global, number: u64, line: &[u8], texts: &mut Texts) -> JoinStepped {
         match read_datagram(line, &mut self.room) {
             Ok(None) => Ok(None),
             Ok(Some(size)) => {
@@ -122,7 +116,7 @@ impl Reporter for Joiner {
         }
     }
 
-    fn close(&mut self, _: Global, lines: u64, texts: &mut Texts) -> Stepped<LineCause> {
+    fn close(&mut self, _: Global, lines: u64, texts: &mut Texts) -> JoinStepped {
         let keys = self.waiting.count() as u64;
         texts.add_text(&JoinLine::End { lines, keys })?;
         Ok(None)
