@@ -91,37 +91,28 @@ fn slave(line: &WordList) -> Result<SlaveSetup, LineCause>
     })
 }
 
-/// The line `gm`: a grandmaster is set up.
-///
-/// # Errors
-/// `Field(k)` for the first word k of another form or out of its range.
+// The line `gm`: a grandmaster is set up.
 #[tactic(auto, unfolding(crate::specs::Command::fields_in))]
-pub fn gm<'a>(line: &WordList) -> Result<Command<'a>, LineCause>
+pub(crate) fn gm<'a>(line: &WordList) -> Result<Command<'a>, LineCause>
     ensures value { result ≡ fields_in verbs.Gm line.now }
     ensures within { IfOk result IsCommandInRange }
 {
     Ok(Command::Grandmaster(grandmaster(line)?))
 }
 
-/// The line `slave`: a slave without masters is set up.
-///
-/// # Errors
-/// `Field(k)` for the first word k of another form or out of its range.
+// The line `slave`: a slave without masters is set up.
 #[tactic(auto, unfolding(crate::specs::Command::fields_in))]
-pub fn new_slave<'a>(line: &WordList) -> Result<Command<'a>, LineCause>
+pub(crate) fn new_slave<'a>(line: &WordList) -> Result<Command<'a>, LineCause>
     ensures value { result ≡ fields_in verbs.Slave line.now }
     ensures within { IfOk result IsCommandInRange }
 {
     Ok(Command::Slave(slave(line)?))
 }
 
-/// The line `master SLAVE IP PRIORITY RULE`: a slave gets a master at the end of its list, with a
-/// judge of the rule.
-///
-/// # Errors
-/// `Field(k)` for the first word k of another form or out of its range.
+// `master SLAVE IP PRIORITY RULE`: a slave gets a master at the end of its list, with a judge of the
+// rule.
 #[tactic(auto, unfolding(crate::specs::Command::fields_in))]
-pub fn master<'a>(line: &WordList) -> Result<Command<'a>, LineCause>
+pub(crate) fn master<'a>(line: &WordList) -> Result<Command<'a>, LineCause>
     ensures value { result ≡ fields_in verbs.Master line.now }
     ensures within { IfOk result IsCommandInRange }
 {
