@@ -10,7 +10,8 @@ use Rattle.ptu_report.specs.{declared.ending.Ending.{Ending}, Reported.{HasWritt
 use Rattle.ptu_report.specs.Rules.{Rules, ending_of, texts_of}
 use Rattle.ptu_script.specs.Cause.{cause_of_line}
 use Rattle.ptu_show.specs.{declared.half.Half.{Half}, Halves.{half_in, joined}}
-use Rattle.ptu_show.specs.{Joins.{partner, waiting_keys}, Shown.{bad_line, datagram_rules, IsRefusedFor}}
+use Rattle.ptu_show.specs.{Joins.{partner, waiting_keys}, Shown.{bad_line, datagram_rules, numbered_line, IsRefusedFor}}
+use Rattle.ptu_show.specs.declared.join_lines.{JoinLine.{JoinLine}, JoinLine.TheVariants.{Pair, Overflow, Wait, Pass, Bad, End}}
 
 -- the halves among datagrams, in their order
 abbrev pub halves_of : List (List ℕ) → List Half
@@ -36,6 +37,15 @@ text_behind halves (Some half) = half_text half (partner halves half)
 abbrev pub joins_end_line : ℕ → ℕ → List ℕ
 joins_end_line lines keys =
     codes "end " ++ (decimal lines ++ (codes " " ++ (decimal keys ++ codes "\n")))
+
+-- how each line that `join` writes is written
+abbrev pub join_line_text : JoinLine → List ℕ
+join_line_text (Pair number sync) = numbered_line number (codes "pair " ++ encode_lower sync.0.now)
+join_line_text (Overflow number) = numbered_line number (codes "overflow")
+join_line_text (Wait number) = numbered_line number (codes "wait")
+join_line_text (Pass number) = numbered_line number (codes "pass")
+join_line_text (Bad number cause) = bad_line number cause
+join_line_text (End lines keys) = joins_end_line lines keys
 
 -- the datagrams so far are kept, the last of them first
 abbrev pub join_rules : Rules (List (List ℕ)) LineCause

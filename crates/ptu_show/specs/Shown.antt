@@ -11,7 +11,9 @@ use Rattle.ptu_report.specs.Rules.{Rules, Outcome, Goes, Refuses, ending_of, tex
 use Rattle.ptu_script.specs.declared.cause.Cause.{Cause}
 use Rattle.ptu_lines.specs.declared.cause.LineCause.TheVariants.{Field, Long, Size, Text}
 use Rattle.ptu_script.specs.Cause.{cause_of_line, cause_text}
-use Rattle.ptu_show.specs.{Datagram.{datagram_text}, Reading.{datagram_in}}
+use Rattle.ptu_texts.specs.Faults.{fault_text}
+use Rattle.ptu_show.specs.declared.lines.{ShowLine.{ShowLine}, ShowLine.TheVariants.{Message, Fault, Bad, End}}
+use Rattle.ptu_show.specs.{Datagram.{datagram_text, message_text}, Reading.{datagram_in}}
 
 -- a line of output that begins with the number of a line of input
 abbrev pub numbered_line : ℕ → List ℕ → List ℕ
@@ -24,6 +26,13 @@ bad_line number cause = numbered_line number (codes "bad " ++ cause_text cause)
 -- the last line of a whole output
 abbrev pub end_line : ℕ → List ℕ
 end_line lines = codes "end " ++ (decimal lines ++ codes "\n")
+
+-- how each line that `show` writes is written
+abbrev pub show_line_text : ShowLine → List ℕ
+show_line_text (Message number text) = numbered_line number (message_text text.length text.message.now)
+show_line_text (Fault number fault) = numbered_line number (codes "fault " ++ fault_text fault.0)
+show_line_text (Bad number cause) = bad_line number cause
+show_line_text (End lines) = end_line lines
 
 -- what a line does to a program that takes one datagram a line, by what the line writes: a datagram leads on and has a line
 -- of output, a comment does nothing, and another line is refused, for a cause by this name
