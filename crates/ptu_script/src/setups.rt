@@ -53,10 +53,10 @@ fn delay_timeout(line: &WordList) -> Result<ReceiptTimeout, LineCause>
     }
 }
 
-/// The fields of `slave IP CLOCK PORT DOMAIN WAIT TA TS LA LS LD DUR` and, where there is a 13th
-/// word, TD.
+// The fields of `slave IP CLOCK PORT DOMAIN WAIT TA TS LA LS LD DUR` and, where there is a 13th word,
+// TD.
 #[tactic(auto, unfolding(crate::specs::Command::slave_in))]
-fn slave(line: &WordList) -> Result<SlaveSetup, LineCause>
+pub(crate) fn slave(line: &WordList) -> Result<SlaveSetup, LineCause>
     ensures value { result ≡ slave_in line.now }
     ensures within { IfOk result IsSlaveWithin }
 {
@@ -89,24 +89,6 @@ fn slave(line: &WordList) -> Result<SlaveSetup, LineCause>
         delay_timeout,
         wants,
     })
-}
-
-// The line `gm`: a grandmaster is set up.
-#[tactic(auto, unfolding(crate::specs::Command::fields_in))]
-pub(crate) fn gm<'a>(line: &WordList) -> Result<Command<'a>, LineCause>
-    ensures value { result ≡ fields_in verbs.Gm line.now }
-    ensures within { IfOk result IsCommandInRange }
-{
-    Ok(Command::Grandmaster(grandmaster(line)?))
-}
-
-// The line `slave`: a slave without masters is set up.
-#[tactic(auto, unfolding(crate::specs::Command::fields_in))]
-pub(crate) fn new_slave<'a>(line: &WordList) -> Result<Command<'a>, LineCause>
-    ensures value { result ≡ fields_in verbs.Slave line.now }
-    ensures within { IfOk result IsCommandInRange }
-{
-    Ok(Command::Slave(slave(line)?))
 }
 
 // `master SLAVE IP PRIORITY RULE`: a slave gets a master at the end of its list, with a judge of the
