@@ -6,7 +6,7 @@ use Rattle.hex.specs.Hex.{encode_lower}
 use Rattle.ptu_outside.specs.Handing.{joined as together}
 use Rattle.ptu_lines.specs.{Script.{script_lines}, declared.cause.LineCause.{LineCause}}
 use Rattle.ptu_messages.specs.{declared.message.Message.{Message}, Sent.{sent_message}}
-use Rattle.ptu_report.specs.{declared.ending.Ending.{Ending}, Reported.{HasWritten}}
+use Rattle.ptu_report.specs.declared.ending.Ending.{Ending}
 use Rattle.ptu_report.specs.Rules.{Rules, ending_of, texts_of}
 use Rattle.ptu_script.specs.Cause.{cause_of_line}
 use Rattle.ptu_show.specs.{declared.half.Half.{Half}, Halves.{half_in, joined}}
@@ -61,12 +61,6 @@ joined_ending input = ending_of join_rules [] (script_lines input)
 
 abbrev pub joined_output : List ℕ → List ℕ
 joined_output input = together (joined_lines input)
-
--- all that belongs to the input was written, each line handed over in one piece, and it ends so
-abbrev pub HasJoined : {K : Type 0} → (K → Option (List ℕ)) → (K → Option (List (List ℕ)))
-    → K → K → List ℕ → Ending LineCause → Type 0
-HasJoined written handed old new input ending =
-    HasWritten written handed old new (joined_lines input) (joined_ending input) ending
 
 -- no line is refused but for these causes
 abbrev pub HasJoinCause : Ending LineCause → Type 0

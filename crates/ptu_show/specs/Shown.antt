@@ -6,7 +6,6 @@ use Rattle.ptu_outside.specs.Handing.{joined}
 use Rattle.ptu_lines.specs.{Script.{script_lines}, declared.cause.LineCause.{LineCause}}
 use Rattle.ptu_report.specs.declared.ending.Ending.{Ending}
 use Rattle.ptu_report.specs.declared.ending.Ending.TheVariants as endings
-use Rattle.ptu_report.specs.Reported.{HasWritten}
 use Rattle.ptu_report.specs.Rules.{Rules, Outcome, Goes, Refuses, ending_of, texts_of}
 use Rattle.ptu_script.specs.declared.cause.Cause.{Cause}
 use Rattle.ptu_lines.specs.declared.cause.LineCause.TheVariants.{Field, Long, Size, Text}
@@ -62,12 +61,6 @@ shown_ending input = ending_of show_rules tt (script_lines input)
 
 abbrev pub shown : List ℕ → List ℕ
 shown input = joined (shown_lines input)
-
--- all that belongs to the input was written, each line handed over in one piece, and it ends so
-abbrev pub HasShown : {K : Type 0} → (K → Option (List ℕ)) → (K → Option (List (List ℕ)))
-    → K → K → List ℕ → Ending Cause → Type 0
-HasShown written handed old new input ending =
-    HasWritten written handed old new (shown_lines input) (shown_ending input) ending
 
 -- no line is refused but for these causes, by their names
 abbrev pub IsRefusedFor : {C : Type 0} → (LineCause → C) → Ending C → Type 0

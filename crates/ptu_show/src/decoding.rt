@@ -1,9 +1,9 @@
 //! The call `show`: decodes one datagram in each line of input.
 
 ghost use Rattle.std.specs.Prelude.{◌≡◌, ◌++◌, ◌∷◌, [], ℕ, List, Some, IfOk, OnOk, OnErr};
-ghost use Rattle.ptu_report.specs.Runs.{HasRunThrough, IfWritten};
+ghost use Rattle.ptu_report.specs.{Reported.{HasWritten}, Runs.{HasRunThrough, IfWritten}};
 ghost use Rattle.ptu_show.specs.Datagram.{datagram_text};
-ghost use Rattle.ptu_show.specs.Shown.{numbered_line, shown_lines, show_rules, HasShowCause, HasShown};
+ghost use Rattle.ptu_show.specs.Shown.{numbered_line, shown_ending, shown_lines, show_rules, HasShowCause};
 
 use crate::datagram::MessageText;
 use crate::fault::{LabFault, ShowStepped};
@@ -106,7 +106,8 @@ pub fn show<S: Source, K: Sink>(
 ) -> Result<u64, LabFault>
     // The whole output was written, and the answer says how it ends.
     ensures whole { (input : List ℕ) → S.left source.old ≡ Some input → IfWritten result
-        (λ ending. HasShown K.written K.handed sink.old sink.new input ending) }
+        (λ ending. HasWritten K.written K.handed sink.old sink.new
+        (shown_lines input) (shown_ending input) ending) }
     ensures causes { (input : List ℕ) → S.left source.old ≡ Some input
         → IfWritten result HasShowCause }
     // What was read and written, whatever is answered.

@@ -1,10 +1,10 @@
 //! The call `join`: merges each two-step Sync with its Follow_Up.
 
 ghost use Rattle.std.specs.Prelude.{◌≡◌, ◌++◌, ◌∷◌, [], ℕ, List, Some, true, IfOk, IfSome, OnOk};
-ghost use Rattle.ptu_report.specs.Runs.{HasRunThrough, IfWritten};
+ghost use Rattle.ptu_report.specs.{Reported.{HasWritten}, Runs.{HasRunThrough, IfWritten}};
 ghost use Rattle.ptu_show.specs.Halves.{half_in, is_other};
 ghost use Rattle.ptu_show.specs.Joined.{half_text, halves_of, join_rules};
-ghost use Rattle.ptu_show.specs.Joined.{joined_lines, text_behind, HasJoined, HasJoinCause};
+ghost use Rattle.ptu_show.specs.Joined.{joined_ending, joined_lines, text_behind, HasJoinCause};
 ghost use Rattle.ptu_show.specs.{Shown.{numbered_line}, Waiting.{IsHalf, StandsFor}};
 
 use crate::fault::{JoinFault, JoinStepped};
@@ -153,7 +153,8 @@ pub fn join<S: Source, K: Sink>(
 ) -> Result<u64, JoinFault>
     // The whole output was written, and the answer says how it ends.
     ensures whole { (input : List ℕ) → S.left source.old ≡ Some input → IfWritten result
-        (λ ending. HasJoined K.written K.handed sink.old sink.new input ending) }
+        (λ ending. HasWritten K.written K.handed sink.old sink.new
+        (joined_lines input) (joined_ending input) ending) }
     ensures causes { (input : List ℕ) → S.left source.old ≡ Some input
         → IfWritten result HasJoinCause }
     // What was read and written, whatever is answered.
