@@ -1,6 +1,6 @@
 //! A datagram in words.
 
-ghost use Rattle.std.specs.Prelude.{◌≡◌, ◌≤◌, ◌+◌, ◌++◌, [], OnOk, codes};
+ghost use Rattle.std.specs.Prelude.{◌≡◌, ◌≤◌, ◌+◌, ◌++◌, [], OnOk, codes, length};
 ghost use Rattle.std.specs.{Fmt.{decimal}, List.{flat_map}};
 ghost use Rattle.ptu_messages.specs.declared.message.Body.TheVariants as bodies;
 ghost use Rattle.ptu_texts.specs.Texts.{identity_text};
@@ -45,34 +45,32 @@ fn put_stamp(stamp: Stamp, line: &mut LineText)
     line.put_str(" stamp ");
 }
 
-// Puts code, logarithm and seconds.
-fn put_ask(ask: Ask, line: &mut LineText)
-    requires { 29 ≤ line.old.room }
-    ensures text { line.new.text ≡ ask_text ask ++ line.old.text }
-    ensures room { line.old.room ≤ line.new.room + 29 }
+// Puts a name of at most nine octets, and behind it code, logarithm and seconds.
+fn put_ask(name: &'static str, ask: Ask, line: &mut LineText)
+    requires short { length name.now ≤ 9 }
+    requires room { 38 ≤ line.old.room }
+    ensures text { line.new.text ≡ (name.now ++ ask_text ask) ++ line.old.text }
+    ensures room { line.old.room ≤ line.new.room + 38 }
 {
     line.put_number(u64::from(ask.seconds));
     line.put_str(" ");
     line.put_signed(ask.log);
     line.put_str(" ");
     line.put_octet(ask.code);
+    line.put_str(name);
 }
 
 // Puts a TLV behind a space.
-fn put_tlv(tlv: Tlv, line: &mut LineText)
+fn put_tlv(tlv: &Tlv, line: &mut LineText)
     requires { 48 ≤ line.old.room }
-    ensures text { line.new.text ≡ tlv_text tlv ++ line.old.text }
+    ensures text { line.new.text ≡ tlv_text tlv.now ++ line.old.text }
     ensures room { line.old.room ≤ line.new.room + 48 }
 {
-    match tlv {
-        Tlv::Request(ask) => {
-            put_ask(ask, line);
-            line.put_str(" request ");
-        }
+    match *tlv {
+        Tlv::Request(ask) => put_ask(" request ", ask, line),
         Tlv::Grant(ask, renewal) => {
             line.put_str(if renewal { " 1" } else { " 0" });
-            put_ask(ask, line);
-            line.put_str(" grant ");
+            put_ask(" grant ", ask, line);
         }
         Tlv::Cancel(code) => {
             line.put_octet(code);
@@ -98,7 +96,7 @@ fn put_tlvs(tlvs: &[Tlv], draft: &mut Draft) -> Result<(), OutOfMemory>
 {
     for tlv in tlvs {
         let mut line = LineText::new();
-        put_tlv(*tlv, &mut line);
+        put_tlv(tlv, &mut line);
         draft.put_line(&line)?;
     }
     Ok(())
