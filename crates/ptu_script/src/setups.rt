@@ -53,8 +53,7 @@ fn delay_timeout(line: &WordList) -> Result<ReceiptTimeout, LineCause>
     }
 }
 
-// The fields of `slave IP CLOCK PORT DOMAIN WAIT TA TS LA LS LD DUR` and, where there is a 13th word,
-// TD.
+// The fields of `slave IP CLOCK PORT DOMAIN WAIT TA TS LA LS LD DUR`, and TD in a line of 13 words.
 #[tactic(auto, unfolding(crate::specs::Command::slave_in))]
 pub(crate) fn slave(line: &WordList) -> Result<SlaveSetup, LineCause>
     ensures value { result ≡ slave_in line.now }
@@ -91,8 +90,7 @@ pub(crate) fn slave(line: &WordList) -> Result<SlaveSetup, LineCause>
     })
 }
 
-// `master SLAVE IP PRIORITY RULE`: a slave gets a master at the end of its list, with a judge of the
-// rule.
+// `master SLAVE IP PRIORITY RULE`: a slave gets a master at the end of its list, and its judge.
 #[tactic(auto, unfolding(crate::specs::Command::fields_in))]
 pub(crate) fn master<'a>(line: &WordList) -> Result<Command<'a>, LineCause>
     ensures value { result ≡ fields_in verbs.Master line.now }
