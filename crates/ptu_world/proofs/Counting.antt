@@ -171,11 +171,7 @@ none_heard masters h = refl
 
 slave_few : (s : Slave) (t : ℕ) (deed : slave.Deed) (h : slave_heard.Heard) → HasFew (slaves.heard_deed s t deed h)
 slave_few s t deed (slave_heards.Ignored reason) = (no_more_than _ (none_heard s.opened.masters (slave_heards.Ignored reason)), refl)
-slave_few s t deed (slave_heards.Announce x m class) = (no_more_than _ (none_heard s.opened.masters (slave_heards.Announce x m class)), refl)
-slave_few s t deed (slave_heards.Sync x m number) = (no_more_than _ (none_heard s.opened.masters (slave_heards.Sync x m number)), refl)
-slave_few s t deed (slave_heards.FollowUp x m) = (no_more_than _ (none_heard s.opened.masters (slave_heards.FollowUp x m)), refl)
-slave_few s t deed (slave_heards.DelayResp x m number) = (no_more_than _ (none_heard s.opened.masters (slave_heards.DelayResp x m number)), refl)
-slave_few s t deed (slave_heards.Signals x m list reply) = (no_more_than _ (none_heard s.opened.masters (slave_heards.Signals x m list reply)), refl)
+slave_few s t deed h = (no_more_than _ (none_heard s.opened.masters h), refl)
 
 given_few : (node : Node) (t from : ℕ) (octets : List ℕ) → HasFew (datagram_deed node t from octets)
 given_few (IsGrandmaster g) t from octets = gm_few g t from (heard_in g.config octets) (few_heard g.config octets)

@@ -266,12 +266,9 @@ plain_selects v ip t s e at = says_selects v ip t (slaves.plain_deed s t e) (sla
 
 heard_selects : (v : World) (ip t : ℕ) (s : Slave) (deed : slave.Deed) (heard : slave_heard.Heard) → s.ip ≡ ip → is_event heard ≡ true → selects v ip (slaves.heard_deed s t deed heard)
 heard_selects v ip t s deed (slave_heards.Ignored reason) at e = absurd cc
-heard_selects v ip t s deed (slave_heards.Announce x m class) at e = says_selects v ip t (slaves.heard_deed s t deed (slave_heards.Announce x m class)) (slaves.entered s deed) at refl refl
-heard_selects v ip t s deed (slave_heards.Sync x m number) at e = says_selects v ip t (slaves.heard_deed s t deed (slave_heards.Sync x m number)) (slaves.entered s deed) at refl refl
-heard_selects v ip t s deed (slave_heards.FollowUp x m) at e = says_selects v ip t (slaves.heard_deed s t deed (slave_heards.FollowUp x m)) (slaves.entered s deed) at refl refl
-heard_selects v ip t s deed (slave_heards.DelayResp x m number) at e = says_selects v ip t (slaves.heard_deed s t deed (slave_heards.DelayResp x m number)) (slaves.entered s deed) at refl refl
 heard_selects v ip t s deed (slave_heards.Signals x m list reply) at e =
     says_selects v ip t (slaves.heard_deed s t deed (slave_heards.Signals x m list reply)) (slaves.entered s deed) at (plain_each slaves.signal_said list signal_plain) refl
+heard_selects v ip t s deed heard at e = says_selects v ip t (slaves.heard_deed s t deed heard) (slaves.entered s deed) at refl refl
 
 module _ (w : World) (all : AllStand w.nodes) where
   abbrev Names : ℕ → Done → Type 0
