@@ -8,7 +8,7 @@ ghost use Rattle.ptu_pool_run.specs.Output.{pool_line_text};
 use crate::cause::PoolCause;
 use ptu_lines::{AddressText, Draft, LentOctets, LinePart, LineText, Text};
 use ptu_outside::Channel;
-use ptu_report_lines::ChannelText;
+use ptu_report_lines::Word;
 use ptu_units::OutOfMemory;
 
 /// A line of output. Its text has the 0A at its end. Lines of the script are numbered from 1.
@@ -48,7 +48,7 @@ fn put_sent_head(number: u64, pool: usize, channel: Channel, to: u32, line: &mut
     line.put_str(" ");
     AddressText(to).put(line);
     line.put_str(" ");
-    ChannelText(channel).put(line);
+    Word::Channel(channel).put(line);
     line.put_str(" send ");
     line.put_number(pool as u64);
     line.put_str(" pool ");

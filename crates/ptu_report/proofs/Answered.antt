@@ -6,16 +6,14 @@ use Rattle.ptu_outside.proofs.Putting.{HasPutPart-whole}
 use Rattle.ptu_lines.specs.Script.{ScriptLine, script_lines}
 use Rattle.ptu_report.specs.declared.ending.{Ending.{Ending}, Ending.TheVariants.{Whole, Refused}}
 use Rattle.ptu_report.specs.declared.fault.RunFault.{RunFault}
-use Rattle.ptu_report.specs.declared.fault.RunFault.TheVariants.{Line, Read, Write, OutOfMemory}
+use Rattle.ptu_report.specs.declared.fault.RunFault.TheVariants.{Line, Read, OutOfMemory}
 use Rattle.ptu_report.specs.{Reported.{HasReported, HasWritten}, Rules.{Rules, ending_of, texts_of}}
 use Rattle.ptu_report.specs.Runs.{HasRunThrough, IfRefused, IfWritten}
 
 module _ {C : Type 0} (P Q : Ending C → Type 0) (then : (ending : Ending C) → P ending → Q ending) where
   pub refused_weaker : (fault : RunFault C) → IfRefused fault P → IfRefused fault Q
   refused_weaker (Line number cause) h = then (Refused number cause) h
-  refused_weaker Read h = tt
-  refused_weaker Write h = tt
-  refused_weaker OutOfMemory h = tt
+  refused_weaker fault h = tt
 
   pub written_weaker : (r : Result ℕ (RunFault C)) → IfWritten r P → IfWritten r Q
   written_weaker (Ok lines) h = then (Whole lines) h

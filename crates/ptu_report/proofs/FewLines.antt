@@ -47,10 +47,8 @@ whole_fits before piece is within = by (nat_le before 67108864) (le-leb before 6
   where
     by : (low : Bool) → low ≡ true → (past : Bool) → nat_lt 67108864 (before + min (length piece) 8193) ≡ past → (long : Bool) → nat_lt 8192 (length (text_of piece)) ≡ long
         → cond (low && past) (Some Size) (cond long (Some Long) (cond (list_all is_plain (text_of piece)) None (Some Text))) ≡ None → before + length piece ≤ 67108864
-    by false low past at long short none = absurd (cc)
-    by true low true at long short none = absurd (cc)
-    by true low false at true short none = absurd (cc)
     by true low false at false short none = omega (arith, ltb-false 67108864 (before + min (length piece) 8193) at, ltb-false 8192 (length (text_of piece)) short, one_longer piece is)
+    by near low past at long short none = absurd (cc)
 
 few_from : (ps : List (List ℕ)) (before : ℕ) → ArePieces ps → before ≤ 67108864 → length (lines_from before ps) + before ≤ 67108865
 few_from [] before all within = omega (arith, within)

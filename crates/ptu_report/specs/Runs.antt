@@ -6,15 +6,13 @@ use Rattle.ptu_outside.specs.{declared.source.Source.{Ghosts as Sources}, Ends.{
 use Rattle.ptu_outside.specs.{Faults.{HasRisen}, Handing.{HasPutPart}}
 use Rattle.ptu_report.specs.declared.ending.{Ending.{Ending}, Ending.TheVariants.{Whole, Refused}}
 use Rattle.ptu_report.specs.declared.fault.RunFault.{RunFault}
-use Rattle.ptu_report.specs.declared.fault.RunFault.TheVariants.{Line, Read, Write, OutOfMemory}
+use Rattle.ptu_report.specs.declared.fault.RunFault.TheVariants.{Line, Read, Write}
 use Rattle.ptu_report.specs.{Reported.{HasReportedAllRead}, Rules.{Rules}}
 
 -- where a line is refused, the output was written to its end; with this ending it then meets P
 abbrev pub IfRefused : {C : Type 0} → RunFault C → (Ending C → Type 0) → Type 0
 IfRefused (Line number cause) P = P (Refused number cause)
-IfRefused Read P = Unit {0}
-IfRefused Write P = Unit {0}
-IfRefused OutOfMemory P = Unit {0}
+IfRefused fault P = Unit {0}
 
 -- it says that the output was written to its end; with this ending it then meets P
 abbrev pub IfWritten : {C : Type 0} → Result ℕ (RunFault C) → (Ending C → Type 0) → Type 0
@@ -24,16 +22,12 @@ IfWritten (Err fault) P = IfRefused fault P
 -- ---- the counts of faults
 
 abbrev pub IsCountedRead : {C : Type 0} → RunFault C → ℕ → ℕ → Type 0
-IsCountedRead (Line number cause) old new = new ≡ old
 IsCountedRead Read old new = HasRisen old new
-IsCountedRead Write old new = new ≡ old
-IsCountedRead OutOfMemory old new = new ≡ old
+IsCountedRead fault old new = new ≡ old
 
 abbrev pub IsCountedWrite : {C : Type 0} → RunFault C → ℕ → ℕ → Type 0
-IsCountedWrite (Line number cause) old new = new ≡ old
-IsCountedWrite Read old new = new ≡ old
 IsCountedWrite Write old new = HasRisen old new
-IsCountedWrite OutOfMemory old new = new ≡ old
+IsCountedWrite fault old new = new ≡ old
 
 -- the source's count rises exactly where the answer is that the source failed
 abbrev pub CountsRead : {A C : Type 0} → Result A (RunFault C) → ℕ → ℕ → Type 0

@@ -1,18 +1,14 @@
 -- Counts of faults of a program that may stop.
-use Rattle.std.specs.Prelude.{◌≡◌, ℕ, Result, Ok, Err}
+use Rattle.std.specs.Prelude.{◌≡◌, ℕ, Result, Err}
 use Rattle.ptu_outside.specs.Faults.{HasRisen}
-use Rattle.ptu_report.specs.declared.stop.{Stop.{Stop}, Stop.TheVariants.{Read, Write, OutOfMemory}}
+use Rattle.ptu_report.specs.declared.stop.{Stop.{Stop}, Stop.TheVariants.{Read, Write}}
 
 -- the source's count rises exactly where it stops since the source failed
 abbrev pub CountsRead : {A : Type 0} → Result A Stop → ℕ → ℕ → Type 0
-CountsRead (Ok x) old new = new ≡ old
 CountsRead (Err Read) old new = HasRisen old new
-CountsRead (Err Write) old new = new ≡ old
-CountsRead (Err OutOfMemory) old new = new ≡ old
+CountsRead result old new = new ≡ old
 
 -- the sink's count rises exactly where it stops since the sink failed
 abbrev pub CountsWrite : {A : Type 0} → Result A Stop → ℕ → ℕ → Type 0
-CountsWrite (Ok x) old new = new ≡ old
-CountsWrite (Err Read) old new = new ≡ old
 CountsWrite (Err Write) old new = HasRisen old new
-CountsWrite (Err OutOfMemory) old new = new ≡ old
+CountsWrite result old new = new ≡ old

@@ -4,7 +4,6 @@ ghost use Rattle.std.specs.Prelude.{◌≡◌, ◌≤◌, ◌+◌, ◌++◌, ◌
 ghost use Rattle.std.specs.Fmt.{decimal, signed_decimal};
 ghost use Rattle.ptu_lines.specs.Texts.{kind_text};
 ghost use Rattle.ptu_report_lines.specs.Statements.{decision_text, words_text};
-ghost use Rattle.ptu_report_lines.specs.declared.decision.Decision.TheVariants as decisions;
 
 use crate::words::{Word, put_words};
 use ptu_lines::{KindText, LinePart, LineText};
@@ -73,7 +72,11 @@ impl LinePart for Decision {
                 log,
                 at,
                 until,
-            } => put_granted(kind, log, at, until, line),
+            } => {
+                line.put_number(until);
+                line.put_str(" until ");
+                put_decided("granted", kind, log, at, line);
+            }
             Decision::Short {
                 kind,
                 log,
@@ -83,7 +86,7 @@ impl LinePart for Decision {
                 capacity,
             } => {
                 put_rates(others, rate, capacity, line);
-                put_short(kind, log, at, line);
+                put_decided("short", kind, log, at, line);
             }
             Decision::OutsideType { code } => {
                 line.put_octet(code);
@@ -94,7 +97,10 @@ impl LinePart for Decision {
                 line.put_str("outside log ");
             }
             Decision::OutsideDuration { kind, log, seconds } => {
-                put_outside_duration(kind, log, seconds, line);
+                line.put_number(u64::from(seconds));
+                line.put_str(" ");
+                put_words(&[Word::Kind(kind), Word::Log(log)], line);
+                line.put_str("outside duration ");
             }
             Decision::Cancelled { kind, at } => put_ended("cancelled", kind, at, line),
             Decision::Nothing { kind, at } => put_ended("nothing", kind, at, line),
@@ -104,23 +110,6 @@ impl LinePart for Decision {
             }
         }
     }
-}
-
-// Puts a grant, piece by piece, since there are many.
-fn put_granted(kind: Kind, log: i8, at: Moment, until: u64, line: &mut LineText)
-    requires { 131 ≤ line.old.room }
-    ensures text { line.new.text
-        ≡ decision_text (decisions.Granted kind log at until) ++ line.old.text }
-    ensures room { line.old.room ≤ line.new.room + 131 }
-{
-    line.put_number(until);
-    line.put_str(" until ");
-    line.put_number(at.nanos());
-    line.put_str(" at ");
-    line.put_signed(log);
-    line.put_str(" ");
-    KindText(kind).put(line);
-    line.put_str("granted ");
 }
 
 // Puts the rates by which a request did not fit.
@@ -138,11 +127,12 @@ fn put_rates(others: u64, rate: u64, capacity: u64, line: &mut LineText)
     line.put_str(" others ");
 }
 
-// Puts that a request did not fit, and when.
-fn put_short(kind: Kind, log: i8, at: Moment, line: &mut LineText)
-    requires { 47 ≤ line.old.room }
-    ensures text { line.new.text ≡ (codes "short " ++ (kind_text kind ++ (codes " "
-        ++ (signed_decimal log ++ (codes " at " ++ decimal at))))) ++ line.old.text }
+// Puts what was decided on a request, of at most seven letters, and when.
+fn put_decided(decided: &'static str, kind: Kind, log: i8, at: Moment, line: &mut LineText)
+    requires short { length decided.now ≤ 7 }
+    requires room { 47 ≤ line.old.room }
+    ensures text { line.new.text ≡ (decided.now ++ (codes " " ++ (kind_text kind ++ (codes " "
+        ++ (signed_decimal log ++ (codes " at " ++ decimal at)))))) ++ line.old.text }
     ensures room { line.old.room ≤ line.new.room + 47 }
 {
     line.put_number(at.nanos());
@@ -150,25 +140,11 @@ fn put_short(kind: Kind, log: i8, at: Moment, line: &mut LineText)
     line.put_signed(log);
     line.put_str(" ");
     KindText(kind).put(line);
-    line.put_str("short ");
+    line.put_str(" ");
+    line.put_str(decided);
 }
 
-// Puts that the duration of a request, in seconds, is too short.
-fn put_outside_duration(kind: Kind, log: i8, seconds: u32, line: &mut LineText)
-    requires { 131 ≤ line.old.room }
-    ensures text { line.new.text
-        ≡ decision_text (decisions.OutsideDuration kind log seconds) ++ line.old.text }
-    ensures room { line.old.room ≤ line.new.room + 131 }
-{
-    let seconds = u64::from(seconds);
-    put_words(
-        &[Word::Kind(kind), Word::Log(log), Word::Number(seconds)],
-        line,
-    );
-    line.put_str("outside duration ");
-}
-
-// Puts what a CANCEL found, at a moment.
+// Puts what a CANCEL found, of at most nine letters, at a moment.
 fn put_ended(found: &'static str, kind: Kind, at: Moment, line: &mut LineText)
     requires short { length found.now ≤ 9 }
     requires room { 131 ≤ line.old.room }
@@ -176,13 +152,9 @@ fn put_ended(found: &'static str, kind: Kind, at: Moment, line: &mut LineText)
         (found.now ∷ kind_text kind ∷ codes "at" ∷ decimal at ∷ []) ++ line.old.text }
     ensures room { line.old.room ≤ line.new.room + 131 }
 {
-    put_words(
-        &[
-            Word::Name(found),
-            Word::Kind(kind),
-            Word::Name("at"),
-            Word::Number(at.nanos()),
-        ],
-        line,
-    );
+    line.put_number(at.nanos());
+    line.put_str(" at ");
+    KindText(kind).put(line);
+    line.put_str(" ");
+    line.put_str(found);
 }

@@ -3,7 +3,6 @@
 ghost use Rattle.std.specs.Prelude.{◌≡◌, ◌≤◌, ◌+◌, ◌++◌};
 ghost use Rattle.ptu_report_lines.specs.Statements.{delay_text};
 
-use crate::words::{Word, put_words};
 use ptu_lines::{LinePart, LineText};
 use ptu_units::Moment;
 
@@ -25,34 +24,20 @@ impl LinePart for DelayAnswer {
 
     fn put(self, line: &mut LineText) {
         match self {
-            DelayAnswer::Answered { at } => put_words(
-                &[
-                    Word::Name("answered"),
-                    Word::Name("at"),
-                    Word::Number(at.nanos()),
-                ],
-                line,
-            ),
-            DelayAnswer::NoGrant { at } => put_words(
-                &[
-                    Word::Name("silent"),
-                    Word::Name("nogrant"),
-                    Word::Name("at"),
-                    Word::Number(at.nanos()),
-                ],
-                line,
-            ),
-            DelayAnswer::TooSoon { at, earliest } => put_words(
-                &[
-                    Word::Name("silent"),
-                    Word::Name("soon"),
-                    Word::Name("at"),
-                    Word::Number(at.nanos()),
-                    Word::Name("earliest"),
-                    Word::Number(earliest),
-                ],
-                line,
-            ),
+            DelayAnswer::Answered { at } => {
+                line.put_number(at.nanos());
+                line.put_str("answered at ");
+            }
+            DelayAnswer::NoGrant { at } => {
+                line.put_number(at.nanos());
+                line.put_str("silent nogrant at ");
+            }
+            DelayAnswer::TooSoon { at, earliest } => {
+                line.put_number(earliest);
+                line.put_str(" earliest ");
+                line.put_number(at.nanos());
+                line.put_str("silent soon at ");
+            }
         }
     }
 }

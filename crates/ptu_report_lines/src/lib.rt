@@ -23,4 +23,4 @@ pub use sent::{Sent, SentLine, SentRef};
 pub use sent_list::SentList;
 pub use signal::Received;
 pub use statement::Statement;
-pub use words::{ChannelText, Word, put_words};
+pub use words::{Word, put_words};

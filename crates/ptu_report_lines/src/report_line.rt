@@ -37,13 +37,7 @@ fn put_end(lines: u64, datagrams: u64, draft: &mut Draft) -> Result<(), OutOfMem
 {
     let mut line = LineText::new();
     line.put_str("\n");
-    put_words(
-        &[
-            Word::Name("end"),
-            Word::Number(lines),
-            Word::Number(datagrams),
-        ],
-        &mut line,
-    );
+    put_words(&[Word::Number(lines), Word::Number(datagrams)], &mut line);
+    line.put_str("end ");
     draft.put_line(&line)
 }

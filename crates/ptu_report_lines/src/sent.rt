@@ -6,7 +6,7 @@ ghost use Rattle.ptu_report_lines.specs.{Statements.{channel_text}, Report.{line
 ghost use Rattle.ptu_report_lines.specs.declared.report_line.ReportLine.TheVariants as lines;
 ghost use Rattle.ptu_report_lines.specs.declared.statement.Statement.TheVariants as statements;
 
-use crate::words::ChannelText;
+use crate::words::Word;
 use ptu_lines::{AddressText, Draft, LinePart, LineText, Text};
 use ptu_outside::{Channel, Datagram};
 use ptu_units::OutOfMemory;
@@ -133,7 +133,7 @@ impl SentLine<'_> {
             ++ (channel_text self.now.sent.channel ++ codes " ")))))))) }
     {
         line.put_str(" ");
-        ChannelText(self.sent.channel()).put(line);
+        Word::Channel(self.sent.channel()).put(line);
         line.put_str(" ");
         AddressText(self.sent.to()).put(line);
         line.put_str(" ");

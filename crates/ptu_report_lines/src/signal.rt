@@ -27,14 +27,11 @@ impl LinePart for Received {
 
     fn put(self, line: &mut LineText) {
         match self {
-            Received::Grant { kind, seconds } => put_words(
-                &[
-                    Word::Name("grant"),
-                    Word::Kind(kind),
-                    Word::Number(u64::from(seconds)),
-                ],
-                line,
-            ),
+            Received::Grant { kind, seconds } => {
+                line.put_number(u64::from(seconds));
+                line.put_str(" ");
+                put_words(&[Word::Name("grant"), Word::Kind(kind)], line);
+            }
             Received::Denial { kind } => {
                 put_words(&[Word::Name("denial"), Word::Kind(kind)], line);
             }

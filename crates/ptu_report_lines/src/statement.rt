@@ -1,7 +1,7 @@
 //! All that a line of a report may say after its number, and how it is written.
 
-ghost use Rattle.std.specs.{Prelude.{◌≡◌, ◌≤◌, ◌+◌, ◌++◌, ◌∷◌, OnOk}, Fmt.{decimal}};
-ghost use Rattle.ptu_report_lines.specs.{Report.{line_text}, Statements.{statement_text}};
+ghost use Rattle.std.specs.{Prelude.{◌≡◌, ◌≤◌, ◌+◌, ◌++◌, ◌∷◌, [], length, OnOk}, Fmt.{decimal}};
+ghost use Rattle.ptu_report_lines.specs.{Report.{line_text}, Statements.{statement_text, words_text}};
 ghost use Rattle.ptu_report_lines.specs.declared.report_line.ReportLine.TheVariants as lines;
 ghost use Rattle.ptu_report_lines.specs.declared.statement.Statement.TheVariants as statements;
 
@@ -74,9 +74,9 @@ impl Statement {
         match self {
             Statement::Decided(decision) => decision.put(&mut line),
             Statement::Asked(answer) => answer.put(&mut line),
-            Statement::Heard(hearing) => put_heard(*hearing, &mut line),
+            Statement::Heard(hearing) => put_named("heard", *hearing, &mut line),
             Statement::Received(received) => received.put(&mut line),
-            Statement::Ignored(reason) => put_ignored(*reason, &mut line),
+            Statement::Ignored(reason) => put_named("ignored", *reason, &mut line),
             Statement::Capacity {
                 grandmaster,
                 capacity,
@@ -93,7 +93,7 @@ impl Statement {
                 .put(draft);
             }
             Statement::Selected { slave, master } => put_selected(*slave, *master, &mut line),
-            Statement::Bad(cause) => put_bad(*cause, &mut line),
+            Statement::Bad(cause) => put_named("bad", *cause, &mut line),
         }
         finish(number, &mut line, draft)
     }
@@ -118,16 +118,11 @@ fn put_capacity(grandmaster: u32, capacity: u64, at: Moment, line: &mut LineText
         ≡ statement_text (statements.Capacity grandmaster capacity at) ++ line.old.text }
     ensures room { line.old.room ≤ line.new.room + 80 }
 {
-    put_words(
-        &[
-            Word::Name("capacity"),
-            Word::Address(grandmaster),
-            Word::Number(capacity),
-            Word::Name("at"),
-            Word::Number(at.nanos()),
-        ],
-        line,
-    );
+    line.put_number(at.nanos());
+    line.put_str(" at ");
+    line.put_number(capacity);
+    line.put_str(" ");
+    put_words(&[Word::Name("capacity"), Word::Address(grandmaster)], line);
 }
 
 // Puts a grant that was shed before what stands.
@@ -141,16 +136,10 @@ fn put_shed(kind: Kind, log: Log, client: &Client, line: &mut LineText)
         clock: client.clock,
         port: client.port,
     };
-    put_words(
-        &[
-            Word::Name("shed"),
-            Word::Kind(kind),
-            Word::Log(log.value()),
-            Word::Address(client.ip),
-            Word::Identity(identity),
-        ],
-        line,
-    );
+    put_words(&[Word::Address(client.ip), Word::Identity(identity)], line);
+    line.put_str(" ");
+    put_words(&[Word::Kind(kind), Word::Log(log.value())], line);
+    line.put_str("shed ");
 }
 
 // Puts what a slave selects before what stands, piece by piece, since there are many.
@@ -166,32 +155,13 @@ fn put_selected(slave: u32, master: Option<u32>, line: &mut LineText)
     line.put_str("selected ");
 }
 
-// Puts what a slave heard before what stands.
-fn put_heard(hearing: Hearing, line: &mut LineText)
-    requires { 86 ≤ line.old.room }
-    ensures text { line.new.text ≡ statement_text (statements.Heard hearing) ++ line.old.text }
-    ensures room { line.old.room ≤ line.new.room + 86 }
+// Puts a word, and a part of the line behind it, before what stands.
+fn put_named<P: LinePart>(name: &'static str, part: P, line: &mut LineText)
+    requires { length name.now + 1 + P.most part ≤ line.old.room }
+    ensures text { line.new.text ≡ words_text (name.now ∷ P.text part ∷ []) ++ line.old.text }
+    ensures room { line.old.room ≤ line.new.room + length name.now + 1 + P.most part }
 {
-    hearing.put(line);
-    line.put_str("heard ");
-}
-
-// Puts that a datagram was ignored before what stands.
-fn put_ignored(reason: Reason, line: &mut LineText)
-    requires { 94 ≤ line.old.room }
-    ensures text { line.new.text ≡ statement_text (statements.Ignored reason) ++ line.old.text }
-    ensures room { line.old.room ≤ line.new.room + 94 }
-{
-    reason.put(line);
-    line.put_str("ignored ");
-}
-
-// Puts that the script's line is refused before what stands.
-fn put_bad(cause: Cause, line: &mut LineText)
-    requires { 13 ≤ line.old.room }
-    ensures text { line.new.text ≡ statement_text (statements.Bad cause) ++ line.old.text }
-    ensures room { line.old.room ≤ line.new.room + 13 }
-{
-    cause.put(line);
-    line.put_str("bad ");
+    part.put(line);
+    line.put_str(" ");
+    line.put_str(name);
 }

@@ -1,7 +1,7 @@
 //! The words that lines of a report consist of. A line is a slice of them, written by one loop.
 
 ghost use Rattle.std.specs.Prelude.{◌≡◌, ◌≤◌, ◌+◌, ◌++◌};
-ghost use Rattle.ptu_report_lines.specs.Statements.{channel_text, words_text};
+ghost use Rattle.ptu_report_lines.specs.Statements.{words_text};
 ghost use Rattle.ptu_report_lines.specs.Words.{most, most_of, spaced_text, word_texts, word_text};
 
 use ptu_lines::{AddressText, IdentityText, KindText, LinePart, LineText};
@@ -50,7 +50,8 @@ impl LinePart for Word {
             },
             Word::Address(ip) => AddressText(ip).put(line),
             Word::Identity(identity) => IdentityText(identity).put(line),
-            Word::Channel(channel) => ChannelText(channel).put(line),
+            Word::Channel(Channel::Event) => line.put_str("event"),
+            Word::Channel(Channel::General) => line.put_str("general"),
             Word::Selected(Some(master)) => AddressText(master).put(line),
             Word::Selected(None) => line.put_str("none"),
         }
@@ -80,23 +81,5 @@ pub fn put_words(words: &[Word], line: &mut LineText)
     if let Some((first, rest)) = words.split_first() {
         put_spaced(rest, line);
         first.put(line);
-    }
-}
-
-/// The name of a channel.
-#[derive(Clone, Copy)]
-pub struct ChannelText(pub Channel);
-
-impl LinePart for ChannelText {
-    ghost text = { λ t. channel_text t.0 };
-
-    ghost most = { λ _. 7 };
-
-    #[inline(always)]
-    fn put(self, line: &mut LineText) {
-        match self.0 {
-            Channel::Event => line.put_str("event"),
-            Channel::General => line.put_str("general"),
-        }
     }
 }

@@ -8,14 +8,14 @@ use Rattle.ptu_lines.specs.declared.cause.LineCause.{LineCause}
 use Rattle.ptu_report.specs.declared.ending.{Ending.{Ending}, Ending.TheVariants.{Whole, Refused}}
 use Rattle.ptu_report.specs.declared.fault.RunFault.{RunFault}
 use Rattle.ptu_report.specs.declared.fault.RunFault.TheVariants.{Line, Read, Write, OutOfMemory}
-use Rattle.ptu_report.specs.Runs.{CountsRead, CountsWrite, IfWritten, IsReadWithin}
+use Rattle.ptu_report.specs.{Reported.{HasWritten}, Runs.{CountsRead, CountsWrite, IfWritten, IsReadWithin}}
 use Rattle.ptu_report.proofs.Answered.{written_weaker}
 use Rattle.ptu_report_lines.specs.declared.report_line.ReportLine.{ReportLine}
 use Rattle.ptu_report_lines.specs.declared.report_line.ReportLine.TheVariants.{At, End}
 use Rattle.ptu_world.specs.{World.{World, Stock}, Facts.{EndsBy, world_of}, Report.{report_lines}}
 use Rattle.ptu_script.specs.declared.cause.Cause.{Cause}
 use Rattle.ptu_lab.specs.{declared.done.Done.{Done}, Replayed.{HasReplayed, IfReplayed}}
-use Rattle.ptu_show.specs.{Shown.{HasShown}, Joined.{HasJoined}}
+use Rattle.ptu_show.specs.{Shown.{shown_ending, shown_lines}, Joined.{joined_ending, joined_lines}}
 use Rattle.ptu_pool_run.specs.{declared.cause.PoolCause.{PoolCause}, Answers.{HasPoured}}
 use Rattle.ptu_run.specs.declared.command.Command.{Command}
 use Rattle.ptu_run.specs.declared.command.Command.TheVariants.{Join, Pools, Replay, Show}
@@ -265,11 +265,11 @@ module _ {K : Type 0} (written : K → Option (List ℕ)) (handed : K → Option
       by (Err OutOfMemory) is h end = absurd is
 
 module _ {K : Type 0} (written : K → Option (List ℕ)) (handed : K → Option (List (List ℕ))) (old new : K) (stock : Stock) (input : List ℕ) (left : Option (List ℕ)) where
-  pub shown : (r : Result ℕ (RunFault Cause)) → IsWritten r → IfWritten r (λ ending. HasShown written handed old new input ending) → OnOk r (IsAtEnd left)
+  pub shown : (r : Result ℕ (RunFault Cause)) → IsWritten r → IfWritten r (λ ending. HasWritten written handed old new (shown_lines input) (shown_ending input) ending) → OnOk r (IsAtEnd left)
       → HasRun written handed old new stock Show input left (status_of_answer r)
   shown r is h end = has_run written handed old new stock input left r Show is (written_weaker _ _ (λ ending s. (s.written_is, s.in_pieces, ap (λ e. is_whole e) s.ends)) r h) end
 
-  pub joined_run : (r : Result ℕ (RunFault LineCause)) → IsWritten r → IfWritten r (λ ending. HasJoined written handed old new input ending) → OnOk r (IsAtEnd left)
+  pub joined_run : (r : Result ℕ (RunFault LineCause)) → IsWritten r → IfWritten r (λ ending. HasWritten written handed old new (joined_lines input) (joined_ending input) ending) → OnOk r (IsAtEnd left)
       → HasRun written handed old new stock Join input left (status_of_answer r)
   joined_run r is h end = has_run written handed old new stock input left r Join is (written_weaker _ _ (λ ending j. (j.written_is, j.in_pieces, ap (λ e. is_whole e) j.ends)) r h) end
 

@@ -1,11 +1,12 @@
 -- What a line of a script commands, or why it is refused. The forms are the project's own choice.
-use Rattle.std.specs.Prelude.{ℕ, ◌-◌, ◌^◌, Bool, true, ◌==◌, if◌then◌else◌, List, [], ◌∷◌, length, Option, Some, None, Result, Ok}
+use Rattle.std.specs.Prelude.{ℕ, ◌-◌, ◌^◌, Bool, true, ◌==◌, if◌then◌else◌, List, [], ◌∷◌, length, Option, Some, None, Result, Ok, Err}
 use Rattle.ptu_units.specs.declared.kind.Kind.TheVariants as kinds
 use Rattle.ptu_lines.specs.Words.{clock_of, ip_of, octets_of, words_of}
-use Rattle.ptu_lines.specs.declared.cause.LineCause.{LineCause}
+use Rattle.ptu_lines.specs.declared.cause.{LineCause.{LineCause}, LineCause.TheVariants.{Word}}
 use Rattle.ptu_script.specs.{Cause.{named}, declared.cause.Cause.{Cause}}
 use Rattle.ptu_script.specs.declared.command.GrandmasterSetup.{GrandmasterSetup}
 use Rattle.ptu_script.specs.declared.command.{SlaveSetup.{SlaveSetup}, Command.{Command}}
+use Rattle.ptu_script.specs.declared.act.Act.{Act}
 use Rattle.ptu_script.specs.declared.act.Act.TheVariants as acts
 use Rattle.ptu_script.specs.declared.command.Command.TheVariants as commands
 use Rattle.ptu_script.specs.declared.verb.Verb.{Verb}
@@ -61,13 +62,37 @@ slave_in line = do
     wants = record { announce = announce; sync = sync; delay = delay; seconds = seconds };
   })
 
--- T NODE FROM
-abbrev pub handed_in : List ℕ → Result (ℕ × ℕ × ℕ) LineCause
-handed_in line = do
+-- what a node is told, by the words behind T and its address, where the first word of a line tells a node something
+abbrev pub act_in : Verb → List ℕ → Result Act LineCause
+act_in Rx line = do
+  from ← field 4 ip_of line
+  octets ← field 5 octets_of line
+  Ok (acts.Receive from octets)
+act_in Turn line = do
+  table ← field 4 (from_to 0 3) line
+  Ok (acts.Turn table)
+act_in Tick line = Ok acts.Tick
+act_in Flag line = do
+  master ← field 4 ip_of line
+  unusable ← field 5 truth_of line
+  Ok (acts.Flag master unusable)
+act_in Judge line = do
+  master ← field 4 ip_of line
+  rule ← field 5 rule_named line
+  Ok (acts.Judge master rule)
+act_in Stop line = Ok acts.Stop
+act_in Capacity line = do
+  capacity ← field 4 capacity_of line
+  Ok (acts.Capacity capacity)
+act_in verb line = Err Word
+
+-- T NODE, and what the node is told
+abbrev pub event_in : Verb → List ℕ → Result Command LineCause
+event_in verb line = do
   at ← field 2 moment_of line
   node ← field 3 ip_of line
-  from ← field 4 ip_of line
-  Ok (at, node, from)
+  act ← act_in verb line
+  Ok (commands.Event at node act)
 
 -- what stands behind the first word, by the form of its line
 unfoldable pub fields_in : Verb → List ℕ → Result Command LineCause
@@ -83,50 +108,15 @@ fields_in Master line = do
   priority ← field 4 (from_to 0 255) line
   rule ← field 5 rule_named line
   Ok (commands.Master slave ip priority rule)
-fields_in Rx line = do
-  at ← field 2 moment_of line
-  node ← field 3 ip_of line
-  from ← field 4 ip_of line
-  octets ← field 5 octets_of line
-  Ok (commands.Event at node (acts.Receive from octets))
 fields_in Deliver line = do
   at ← field 2 moment_of line
   number ← field 3 (from_to 0 (2 ^ 64 - 1)) line
   Ok (commands.Deliver at number)
-fields_in Turn line = do
-  at ← field 2 moment_of line
-  node ← field 3 ip_of line
-  table ← field 4 (from_to 0 3) line
-  Ok (commands.Event at node (acts.Turn table))
-fields_in Tick line = do
-  at ← field 2 moment_of line
-  slave ← field 3 ip_of line
-  Ok (commands.Event at slave acts.Tick)
-fields_in Flag line = do
-  at ← field 2 moment_of line
-  slave ← field 3 ip_of line
-  master ← field 4 ip_of line
-  unusable ← field 5 truth_of line
-  Ok (commands.Event at slave (acts.Flag master unusable))
-fields_in Judge line = do
-  at ← field 2 moment_of line
-  slave ← field 3 ip_of line
-  master ← field 4 ip_of line
-  rule ← field 5 rule_named line
-  Ok (commands.Event at slave (acts.Judge master rule))
-fields_in Stop line = do
-  at ← field 2 moment_of line
-  slave ← field 3 ip_of line
-  Ok (commands.Event at slave acts.Stop)
 fields_in Class line = do
   node ← field 2 ip_of line
   class ← field 3 (from_to 0 255) line
   Ok (commands.Event 0 node (acts.Class class))
-fields_in Capacity line = do
-  at ← field 2 moment_of line
-  node ← field 3 ip_of line
-  capacity ← field 4 capacity_of line
-  Ok (commands.Event at node (acts.Capacity capacity))
+fields_in verb line = event_in verb line
 
 -- the command of a line that is no comment
 abbrev pub command_in : List ℕ → Result Command LineCause

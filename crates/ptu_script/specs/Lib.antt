@@ -3,3 +3,4 @@ pub mod Verb
 pub mod Fields
 pub mod Command
 pub mod Limits
+pub mod Samples

@@ -39,10 +39,14 @@ IsActWithin (acts.Capacity capacity) = IsCapacity capacity
 IsActWithin (acts.Judge master rule) = IsNamed rule
 IsActWithin _ = Unit {0}
 
+-- and with them
+abbrev pub IsActInRange : Act → Type 0
+IsActInRange (acts.Receive from octets) = length octets ≤ 2048
+IsActInRange act = IsActWithin act
+
 abbrev pub IsCommandInRange : Command → Type 0
 IsCommandInRange (Grandmaster setup) = IsGrandmasterWithin setup
 IsCommandInRange (Slave setup) = IsSlaveWithin setup
 IsCommandInRange (Master slave ip priority rule) = IsNamed rule
 IsCommandInRange (Deliver at number) = Unit {0}
-IsCommandInRange (Event at node (acts.Receive from octets)) = length octets ≤ 2048
-IsCommandInRange (Event at node act) = IsActWithin act
+IsCommandInRange (Event at node act) = IsActInRange act

@@ -1,7 +1,7 @@
 //! Small lines and what they are. Each clause is one line; the bodies are empty.
-ghost use Rattle.std.specs.Prelude.{◌≡◌, ◌∷◌, [], Some, None, Ok, Err, pos, negsuc, true, codes};
+ghost use Rattle.std.specs.Prelude.{◌≡◌, ◌∷◌, [], Some, None, Ok, Err, pos, true, codes};
 ghost use Rattle.ptu_record.specs.declared.rule.Rule.TheVariants.{Flag as OperatorsFlag, Gap};
-ghost use Rattle.ptu_script.specs.Command.{command_of};
+ghost use Rattle.ptu_script.specs.{Command.{command_of}, Samples.{sample_slave}};
 ghost use Rattle.ptu_lines.specs.declared.cause.LineCause.TheVariants as causes;
 ghost use Rattle.ptu_script.specs.declared.cause.Cause.TheVariants.{Line};
 ghost use Rattle.ptu_script.specs.declared.act.Act.TheVariants as acts;
@@ -23,29 +23,12 @@ pub fn good_lines()
           max_duration = 300;
         }))) }
     ensures slave { command_of (codes "slave 10.0.2.1 0A00000000000021 1 4 60 2 5 4 -7 - 300")
-        ≡ Ok (Some (commands.Slave (record {
-          ip = 0x0A000201;
-          clock = 0x0A00000000000021;
-          port = 1;
-          domain = 4;
-          wait = 60;
-          announce_timeout = 2;
-          sync_timeout = 5;
-          delay_timeout = 3;
-          wants = record { announce = pos 4; sync = negsuc 6; delay = None; seconds = 300 };
-        }))) }
+        ≡ Ok (Some (commands.Slave sample_slave)) }
     ensures slave_with_timeout { command_of
         (codes "slave 10.0.2.1 0A00000000000021 1 4 60 2 5 4 -7 0 300 10")
-        ≡ Ok (Some (commands.Slave (record {
-          ip = 0x0A000201;
-          clock = 0x0A00000000000021;
-          port = 1;
-          domain = 4;
-          wait = 60;
-          announce_timeout = 2;
-          sync_timeout = 5;
+        ≡ Ok (Some (commands.Slave (record sample_slave {
           delay_timeout = 10;
-          wants = record { announce = pos 4; sync = negsuc 6; delay = Some (pos 0); seconds = 300 };
+          wants = record sample_slave.wants { delay = Some (pos 0) };
         }))) }
     ensures master { command_of (codes "master 10.0.2.1 10.0.0.1 9 gap")
         ≡ Ok (Some (commands.Master 0x0A000201 0x0A000001 9 (Gap 4))) }

@@ -1,4 +1,5 @@
-//! The words of a line, each in the form that its place asks for.
+//! The words of a line, each in the form that its place asks for. A reader answers `Field(k)` where
+//! word k has another form or is out of its range, or is not there.
 
 ghost use Rattle.std.specs.Prelude.{◌≡◌, ◌≤◌, ◌≤ℤ◌, pos, IfOk, Some, None, IfSome, MatchOption, option_and_then, option_copied, length, take};
 ghost use Rattle.ptu_units.specs.Log.{IsLogOf};
@@ -54,11 +55,8 @@ fn clock_at(line: &WordList, k: u8) -> Option<u64>
     clock(line.word(usize::from(k))?)
 }
 
-/// The clock identity that word k of the line writes, in 16 hexadecimal digits.
-///
-/// # Errors
-/// `Field(k)` if the word has another form or is out of its range, or is not there.
-pub fn clock_field(line: &WordList, k: u8) -> Result<u64, LineCause>
+// The clock identity that word k of the line writes, in 16 hexadecimal digits.
+pub(crate) fn clock_field(line: &WordList, k: u8) -> Result<u64, LineCause>
     ensures { result ≡ field k clock_of line.now }
 {
     or_outside(clock_at(line, k), k)
@@ -91,11 +89,8 @@ fn octet_at(line: &WordList, k: u8, greatest: u8) -> Option<u8>
     u8::try_from(number_at(line, k, 0, greatest.into())?).ok()
 }
 
-/// The number from 0 to 255 that word k of the line writes in decimal digits.
-///
-/// # Errors
-/// `Field(k)` if the word has another form or is out of its range, or is not there.
-pub fn octet_field(line: &WordList, k: u8) -> Result<u8, LineCause>
+// The number from 0 to 255 that word k of the line writes in decimal digits.
+pub(crate) fn octet_field(line: &WordList, k: u8) -> Result<u8, LineCause>
     ensures { result ≡ field k (from_to 0 255) line.now }
 {
     or_outside(octet_at(line, k, u8::MAX), k)
@@ -143,11 +138,8 @@ fn domain_at(line: &WordList, k: u8) -> Option<Domain>
     Domain::of(number_at(line, k, Domain::LEAST.into(), Domain::GREATEST.into())?)
 }
 
-/// The domainNumber that word k of the line writes in decimal digits.
-///
-/// # Errors
-/// `Field(k)` if the word has another form or is out of its range, or is not there.
-pub fn domain_field(line: &WordList, k: u8) -> Result<Domain, LineCause>
+// The domainNumber that word k of the line writes in decimal digits.
+pub(crate) fn domain_field(line: &WordList, k: u8) -> Result<Domain, LineCause>
     ensures value { result ≡ field k domain_of line.now }
     ensures within { IfOk result IsDomain }
 {
@@ -185,11 +177,8 @@ fn duration_at(line: &WordList, k: u8) -> Option<GrantSeconds>
     )?)
 }
 
-/// The duration of a grant in seconds that word k of the line writes in decimal digits.
-///
-/// # Errors
-/// `Field(k)` if the word has another form or is out of its range, or is not there.
-pub fn duration_field(line: &WordList, k: u8) -> Result<GrantSeconds, LineCause>
+// The duration of a grant in seconds that word k of the line writes in decimal digits.
+pub(crate) fn duration_field(line: &WordList, k: u8) -> Result<GrantSeconds, LineCause>
     ensures value { result ≡ field k duration_of line.now }
     ensures within { IfOk result IsDuration }
 {
@@ -208,11 +197,8 @@ fn timeout_at(line: &WordList, k: u8) -> Option<ReceiptTimeout>
     )?)
 }
 
-/// The receipt timeout in periods that word k of the line writes in decimal digits.
-///
-/// # Errors
-/// `Field(k)` if the word has another form or is out of its range, or is not there.
-pub fn timeout_field(line: &WordList, k: u8) -> Result<ReceiptTimeout, LineCause>
+// The receipt timeout in periods that word k of the line writes in decimal digits.
+pub(crate) fn timeout_field(line: &WordList, k: u8) -> Result<ReceiptTimeout, LineCause>
     ensures value { result ≡ field k timeout_of line.now }
     ensures within { IfOk result IsTimeout }
 {
@@ -226,11 +212,8 @@ fn wait_at(line: &WordList, k: u8) -> Option<WaitToRestore>
     WaitToRestore::of(number_at(line, k, 0, WaitToRestore::GREATEST.into())?)
 }
 
-/// The wait to restore in seconds that word k of the line writes in decimal digits.
-///
-/// # Errors
-/// `Field(k)` if the word has another form or is out of its range, or is not there.
-pub fn wait_field(line: &WordList, k: u8) -> Result<WaitToRestore, LineCause>
+// The wait to restore in seconds that word k of the line writes in decimal digits.
+pub(crate) fn wait_field(line: &WordList, k: u8) -> Result<WaitToRestore, LineCause>
     ensures value { result ≡ field k wait_of line.now }
     ensures within { IfOk result IsWait }
 {
@@ -280,11 +263,8 @@ fn announce_log_at(line: &WordList, k: u8) -> Option<AnnounceLog>
     AnnounceLog::of(log_at(line, k, Kind::Announce)?.value())
 }
 
-/// The logarithm of the Announce interval that word k of the line writes, from -3 to 4.
-///
-/// # Errors
-/// `Field(k)` if the word has another form or is out of its range, or is not there.
-pub fn announce_log_field(line: &WordList, k: u8) -> Result<AnnounceLog, LineCause>
+// The logarithm of the Announce interval that word k of the line writes, from -3 to 4.
+pub(crate) fn announce_log_field(line: &WordList, k: u8) -> Result<AnnounceLog, LineCause>
     ensures value { result ≡ field k (log_of_kind kinds.Announce) line.now }
     ensures within { IfOk result (IsLogOf kinds.Announce) }
 {
@@ -301,12 +281,9 @@ fn delay_log_at(line: &WordList, k: u8) -> Option<Option<Log>>
     }
 }
 
-/// The logarithm of the Delay_Resp interval that word k of the line writes, or `None` for the word
-/// `-`.
-///
-/// # Errors
-/// `Field(k)` if the word has another form or is out of its range, or is not there.
-pub fn delay_log_field(line: &WordList, k: u8) -> Result<Option<Log>, LineCause>
+// The logarithm of the Delay_Resp interval that word k of the line writes, or `None` for the word
+// `-`.
+pub(crate) fn delay_log_field(line: &WordList, k: u8) -> Result<Option<Log>, LineCause>
     ensures { result ≡ field k delay_log line.now }
 {
     or_outside(delay_log_at(line, k), k)
@@ -349,11 +326,8 @@ fn truth_at(line: &WordList, k: u8) -> Option<bool>
     Some(number_at(line, k, 0, 1)? == 1)
 }
 
-/// The truth value that word k of the line writes: 0 for false, 1 for true.
-///
-/// # Errors
-/// `Field(k)` if the word has another form or is out of its range, or is not there.
-pub fn truth_field(line: &WordList, k: u8) -> Result<bool, LineCause>
+// The truth value that word k of the line writes: 0 for false, 1 for true.
+pub(crate) fn truth_field(line: &WordList, k: u8) -> Result<bool, LineCause>
     ensures { result ≡ field k truth_of line.now }
 {
     or_outside(truth_at(line, k), k)

@@ -4,7 +4,6 @@
 mod act;
 mod cause;
 mod command;
-mod events;
 pub mod examples;
 pub mod fields;
 mod reading;

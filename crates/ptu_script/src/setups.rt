@@ -53,10 +53,9 @@ fn delay_timeout(line: &WordList) -> Result<ReceiptTimeout, LineCause>
     }
 }
 
-/// The fields of `slave IP CLOCK PORT DOMAIN WAIT TA TS LA LS LD DUR` and, where there is a 13th
-/// word, TD.
+// The fields of `slave IP CLOCK PORT DOMAIN WAIT TA TS LA LS LD DUR`, and TD in a line of 13 words.
 #[tactic(auto, unfolding(crate::specs::Command::slave_in))]
-fn slave(line: &WordList) -> Result<SlaveSetup, LineCause>
+pub(crate) fn slave(line: &WordList) -> Result<SlaveSetup, LineCause>
     ensures value { result ≡ slave_in line.now }
     ensures within { IfOk result IsSlaveWithin }
 {
@@ -91,37 +90,9 @@ fn slave(line: &WordList) -> Result<SlaveSetup, LineCause>
     })
 }
 
-/// The line `gm`: a grandmaster is set up.
-///
-/// # Errors
-/// `Field(k)` for the first word k of another form or out of its range.
+// `master SLAVE IP PRIORITY RULE`: a slave gets a master at the end of its list, and its judge.
 #[tactic(auto, unfolding(crate::specs::Command::fields_in))]
-pub fn gm<'a>(line: &WordList) -> Result<Command<'a>, LineCause>
-    ensures value { result ≡ fields_in verbs.Gm line.now }
-    ensures within { IfOk result IsCommandInRange }
-{
-    Ok(Command::Grandmaster(grandmaster(line)?))
-}
-
-/// The line `slave`: a slave without masters is set up.
-///
-/// # Errors
-/// `Field(k)` for the first word k of another form or out of its range.
-#[tactic(auto, unfolding(crate::specs::Command::fields_in))]
-pub fn new_slave<'a>(line: &WordList) -> Result<Command<'a>, LineCause>
-    ensures value { result ≡ fields_in verbs.Slave line.now }
-    ensures within { IfOk result IsCommandInRange }
-{
-    Ok(Command::Slave(slave(line)?))
-}
-
-/// The line `master SLAVE IP PRIORITY RULE`: a slave gets a master at the end of its list, with a
-/// judge of the rule.
-///
-/// # Errors
-/// `Field(k)` for the first word k of another form or out of its range.
-#[tactic(auto, unfolding(crate::specs::Command::fields_in))]
-pub fn master<'a>(line: &WordList) -> Result<Command<'a>, LineCause>
+pub(crate) fn master<'a>(line: &WordList) -> Result<Command<'a>, LineCause>
     ensures value { result ≡ fields_in verbs.Master line.now }
     ensures within { IfOk result IsCommandInRange }
 {

@@ -1,5 +1,4 @@
-pub mod ShowCauses
-pub mod JoinCauses
+pub mod Causes
 pub mod Partners
 pub mod Relation
 pub mod Writing

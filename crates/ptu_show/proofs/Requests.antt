@@ -1,8 +1,8 @@
 -- The octets of the request of a client.
-use Rattle.std.proofs.Common.{◌≡◌, ℕ, zero, suc, ◌+◌, ◌<◌, nat_lt, true, List, [], ◌∷◌, ◌++◌, length, refl, sym, ap, subst, rules, arith}
+use Rattle.std.proofs.Common.{◌≡◌, ◌∙◌, ℕ, zero, suc, ◌+◌, ◌<◌, ◌&&◌, nat_lt, true, List, [], ◌∷◌, ◌++◌, length, refl, sym, ap, ap₂, subst, rules, arith}
 use Rattle.std.specs.{Prelude.{ℤ}, Int.{byte_at, cast_unsigned, w8}, Int.RustNames.{FitsSigned}}
 use Rattle.std.specs.List.{list_all}
-use Rattle.std.proofs.{Math.Facts.{Fits-of_z}, lemmas.Bool.{and_parts, lt-ltb, ltb-true}}
+use Rattle.std.proofs.{Math.Facts.{Fits-of_z}, lemmas.{Bool.{and_parts, lt-ltb, ltb-true}, List.Folds.{list_all-append}}}
 use Rattle.hex.specs.Hex.{IsBytes}
 use Rattle.ptu_units.specs.Number.{octets_of}
 use Rattle.ptu_show.specs.Generated.{log_by, request_of}
@@ -12,10 +12,7 @@ abbrev AreOctets : List ℕ → Type 0
 AreOctets xs = list_all (λ x. nat_lt x 256) xs ≡ true
 
 octets-append : (xs ys : List ℕ) → AreOctets xs → AreOctets ys → AreOctets (xs ++ ys)
-octets-append [] ys h k = k
-octets-append (x ∷ xs) ys h k =
-    let parts = and_parts (nat_lt x 256) (list_all (λ x. nat_lt x 256) xs) h in
-    rw parts.0 (octets-append xs ys parts.1 k)
+octets-append xs ys h k = list_all-append (λ x. nat_lt x 256) xs ys ∙ ap₂ (λ a b. a && b) h k
 
 byte_small : (place n : ℕ) → byte_at place n < 256
 byte_small zero n = omega arith

@@ -1,6 +1,6 @@
 -- No line of the script of a load is refused.
-use Rattle.std.proofs.Common.{◌≡◌, ◌∙◌, ℕ, zero, suc, ◌+◌, ◌*◌, ◌/◌, ◌%◌, ◌^◌, ◌<◌, ◌≤◌, List, [], ◌∷◌, ◌++◌, length, map, codes, refl, sym, ap, append_assoc, decimal, arith}
-use Rattle.std.specs.List.{AllByRecursion, flat_map, range_with_len}
+use Rattle.std.proofs.Common.{◌≡◌, ◌∙◌, ℕ, zero, suc, ◌+◌, ◌*◌, ◌/◌, ◌%◌, ◌^◌, ◌<◌, ◌≤◌, List, [], ◌∷◌, ◌++◌, length, map, codes, refl, sym, ap, append_assoc, decimal, subst, arith}
+use Rattle.std.specs.List.{AllByRecursion, range_with_len}
 use Rattle.std.proofs.lemmas.{Fmt.{length-decimal-le}, List.{length-append}}
 use Rattle.std.proofs.lemmas.List.FromFn.{length-map-range_with_len}
 use Rattle.hex.specs.Hex.{IsBytes, encode_lower, lower_digits}
@@ -12,14 +12,14 @@ use Rattle.ptu_report.specs.Rules.{ending_of}
 use Rattle.ptu_script.specs.declared.act.Act.TheVariants as acts
 use Rattle.ptu_script.specs.declared.command.Command.TheVariants as commands
 use Rattle.ptu_world.specs.{World.{Stock}, Report.{course_opening, rules}}
-use Rattle.ptu_show.specs.Generated.{ask_line, ask_lines, client_text, generated, generated_lines, grandmaster_text, log_by, request_of, turn_lines, turn_lines_at, turn_text, x_at}
+use Rattle.ptu_show.specs.Generated.{ask_line, ask_lines, client_text, generated, generated_lines, grandmaster_text, log_by, request_of, turn_lines, turn_text, x_at}
 use Rattle.ptu_show.specs.Whole.{LoadsAreWhole}
 use Rattle.ptu_show.proofs.Commands.{client_address, client_line, client_says, grandmaster_line, grandmaster_says, setup_of, turn_line, turn_says}
 use Rattle.ptu_show.proofs.Going.{IsGoing, address, goes_whole, receive_taken, setup_taken, turn_taken}
 use Rattle.ptu_show.proofs.LoadLines.{IsShortText, ended, lines_whole}
 use Rattle.ptu_show.proofs.Requests.{length-request, request_bytes}
 use Rattle.ptu_lines.proofs.Read.{decimal_glyphs, octets_glyphs}
-use Rattle.ptu_show.proofs.Words.{plain_alone, plain_behind}
+use Rattle.ptu_show.proofs.{Words.{plain_alone, plain_behind}, Writing.{turn_numbered, turns_are}}
 
 -- a short plain text with a 0A, which is taken wherever the grandmaster stands
 record IsLine (line : List ℕ) : Type 0 where
@@ -125,21 +125,11 @@ taken-map : (text : ℕ → List ℕ) (a n : ℕ) → ((i : ℕ) → a ≤ i →
 taken-map text a zero h = tt
 taken-map text a (suc n) h = (h a (omega arith) (omega arith), taken-map text (a + 1) n (λ i low high. h i (omega (arith, low)) (omega (arith, high))))
 
-taken-flat_map : (texts : ℕ → List (List ℕ)) (a n : ℕ) → ((i : ℕ) → a ≤ i → i < a + n → AreTaken (texts i)) → AreTaken (flat_map texts (range_with_len a n))
-taken-flat_map texts a zero h = tt
-taken-flat_map texts a (suc n) h =
-    taken-append (texts a) (flat_map texts (range_with_len (a + 1) n)) (h a (omega arith) (omega arith))
-    (taken-flat_map texts (a + 1) n (λ i low high. h i (omega (arith, low)) (omega (arith, high))))
-
 asks_taken : (n : ℕ) → n ≤ 2000 → AreTaken (ask_lines n)
 asks_taken n most = taken-map ask_line 0 n (λ i low high. client i (x_at (suc i)) (omega (arith, high, most)))
 
-turns_taken_at : (k : ℕ) → k ≤ 8 → AreTaken (turn_lines_at k)
-turns_taken_at k most = taken-map (turn_text (k * 1000000000)) 0 4 (λ i low high. turn (k * 1000000000) i (omega (arith, most)) (omega (arith, high)))
-
 turns_taken : AreTaken (turn_lines 8)
-unfolding turn_lines
-turns_taken = taken-flat_map turn_lines_at 1 8 (λ k low high. turns_taken_at k (omega (arith, high)))
+turns_taken = subst AreTaken turns_are (taken-map turn_numbered 0 32 (λ i low high. turn ((1 + i / 4) * 1000000000) (i % 4) (omega (arith, high)) (omega arith)))
 
 turns_counted : length (turn_lines 8) ≡ 32
 unfolding turn_lines

@@ -111,7 +111,6 @@ generated n = joined (generated_lines n)
 
 -- the sink failed, or memory was wanted
 abbrev pub IsWriteOrMemory : RunFault Cause → Type 0
-IsWriteOrMemory (faults.Line number cause) = ⊥
-IsWriteOrMemory faults.Read = ⊥
 IsWriteOrMemory faults.Write = Unit {0}
 IsWriteOrMemory faults.OutOfMemory = Unit {0}
+IsWriteOrMemory fault = ⊥

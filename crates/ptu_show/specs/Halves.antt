@@ -26,11 +26,7 @@ half_by header (bodies.Sync stamp) =
     else None
 half_by header (bodies.FollowUp stamp) =
     Some (record { part = FollowUp; header = header; stamp = stamp })
-half_by header (bodies.DelayReq stamp) = None
-half_by header (bodies.DelayResp stamp requester) = None
-half_by header (bodies.Announce body) = None
-half_by header (bodies.Signaling target tlvs) = None
-half_by header bodies.Ignored = None
+half_by header body = None
 
 abbrev pub half_read : Result Message MessageFault → Option Half
 half_read (Ok message) = half_by message.header message.body

@@ -1,18 +1,17 @@
 -- What `join` writes for an input: a line for each datagram, up to the first line that is refused
 -- or to the end.
-use Rattle.std.specs.Prelude.{ℕ, List, [], ◌∷◌, ◌++◌, codes, Option, Some, None, Result}
-use Rattle.std.specs.{Prelude.{Ok, Err}, Fmt.{decimal}, List.{filter_map}}
+use Rattle.std.specs.Prelude.{ℕ, List, [], ◌∷◌, ◌++◌, codes, Option, Some, None}
+use Rattle.std.specs.{Fmt.{decimal}, List.{filter_map}}
 use Rattle.hex.specs.Hex.{encode_lower}
 use Rattle.ptu_outside.specs.Handing.{joined as together}
 use Rattle.ptu_lines.specs.{Script.{script_lines}, declared.cause.LineCause.{LineCause}}
-use Rattle.ptu_lines.specs.declared.cause.LineCause.TheVariants.{Size, Long, Text, Field}
 use Rattle.ptu_messages.specs.{declared.message.Message.{Message}, Sent.{sent_message}}
-use Rattle.ptu_report.specs.{declared.ending.Ending.{Ending}, Reported.{HasWritten}}
-use Rattle.ptu_report.specs.Rules.{Rules, Outcome, Goes, Refuses, ending_of, texts_of}
+use Rattle.ptu_report.specs.declared.ending.Ending.{Ending}
+use Rattle.ptu_report.specs.Rules.{Rules, ending_of, texts_of}
 use Rattle.ptu_script.specs.Cause.{cause_of_line}
 use Rattle.ptu_show.specs.{declared.half.Half.{Half}, Halves.{half_in, joined}}
-use Rattle.ptu_show.specs.{Joins.{partner, waiting_keys}, Reading.{datagram_in}}
-use Rattle.ptu_show.specs.Shown.{bad_line, numbered_line, IsRefusedFor}
+use Rattle.ptu_show.specs.{Joins.{partner, waiting_keys}, Shown.{bad_line, datagram_rules, numbered_line, IsRefusedFor}}
+use Rattle.ptu_show.specs.declared.join_lines.{JoinLine.{JoinLine}, JoinLine.TheVariants.{Pair, Overflow, Wait, Pass, Bad, End}}
 
 -- the halves among datagrams, in their order
 abbrev pub halves_of : List (List ℕ) → List Half
@@ -39,21 +38,19 @@ abbrev pub joins_end_line : ℕ → ℕ → List ℕ
 joins_end_line lines keys =
     codes "end " ++ (decimal lines ++ (codes " " ++ (decimal keys ++ codes "\n")))
 
--- what a line does behind these datagrams, the last of them first, by what it writes
-abbrev pub joined_by_line : List (List ℕ) → ℕ → Result (Option (List ℕ)) LineCause
-    → Outcome (List (List ℕ)) LineCause
-joined_by_line past number (Ok None) = Goes past []
-joined_by_line past number (Ok (Some octets)) =
-    Goes (octets ∷ past) (numbered_line number (text_behind (halves_of past) (half_in octets)) ∷ [])
-joined_by_line past number (Err cause) = Refuses cause
+-- how each line that `join` writes is written
+abbrev pub join_line_text : JoinLine → List ℕ
+join_line_text (Pair number sync) = numbered_line number (codes "pair " ++ encode_lower sync.0.now)
+join_line_text (Overflow number) = numbered_line number (codes "overflow")
+join_line_text (Wait number) = numbered_line number (codes "wait")
+join_line_text (Pass number) = numbered_line number (codes "pass")
+join_line_text (Bad number cause) = bad_line number cause
+join_line_text (End lines keys) = joins_end_line lines keys
 
+-- the datagrams so far are kept, the last of them first
 abbrev pub join_rules : Rules (List (List ℕ)) LineCause
-join_rules = record {
-  step = λ past number line. joined_by_line past number (datagram_in line);
-  close = λ past lines. Goes past (joins_end_line lines (waiting_keys (halves_of past)) ∷ []);
-  refusal = λ number cause. bad_line number (cause_of_line cause);
-  cause_of = λ cause. cause;
-}
+join_rules = datagram_rules (List (List ℕ)) LineCause (λ cause. cause) (λ past octets. octets ∷ past) (λ past octets. text_behind (halves_of past) (half_in octets))
+    (λ past lines. joins_end_line lines (waiting_keys (halves_of past))) (λ number cause. bad_line number (cause_of_line cause))
 
 -- the lines of output for an input, how they end, and their octets
 abbrev pub joined_lines : List ℕ → List (List ℕ)
@@ -65,12 +62,6 @@ joined_ending input = ending_of join_rules [] (script_lines input)
 abbrev pub joined_output : List ℕ → List ℕ
 joined_output input = together (joined_lines input)
 
--- all that belongs to the input was written, each line handed over in one piece, and it ends so
-abbrev pub HasJoined : {K : Type 0} → (K → Option (List ℕ)) → (K → Option (List (List ℕ)))
-    → K → K → List ℕ → Ending LineCause → Type 0
-HasJoined written handed old new input ending =
-    HasWritten written handed old new (joined_lines input) (joined_ending input) ending
-
 -- no line is refused but for these causes
 abbrev pub HasJoinCause : Ending LineCause → Type 0
-HasJoinCause ending = IsRefusedFor Size Long Text (Field 1) ending
+HasJoinCause ending = IsRefusedFor (λ cause. cause) ending

@@ -1,12 +1,10 @@
 pub mod Datagram
 pub mod Reading
 pub mod Shown
-pub mod Lines
 pub mod Samples
 pub mod Halves
 pub mod Joins
 pub mod Joined
-pub mod JoinLines
 pub mod Waiting
 pub mod JoinSamples
 pub mod Generated

@@ -1,6 +1,6 @@
 //! A datagram in words.
 
-ghost use Rattle.std.specs.Prelude.{◌≡◌, ◌≤◌, ◌+◌, ◌++◌, [], OnOk, codes};
+ghost use Rattle.std.specs.Prelude.{◌≡◌, ◌≤◌, ◌+◌, ◌++◌, [], OnOk, codes, length};
 ghost use Rattle.std.specs.{Fmt.{decimal}, List.{flat_map}};
 ghost use Rattle.ptu_messages.specs.declared.message.Body.TheVariants as bodies;
 ghost use Rattle.ptu_lines.specs.Texts.{identity_text};
@@ -12,100 +12,78 @@ use ptu_messages::{AnnounceBody, Ask, Body, Message, Tlv};
 use ptu_units::message_types::{ANNOUNCE, DELAY_REQ, DELAY_RESP, FOLLOW_UP, SIGNALING, SYNC};
 use ptu_units::{OutOfMemory, Stamp};
 
-// The name of a messageType, or its number.
-#[derive(Clone, Copy)]
-struct TypeText(u8);
-
-impl LinePart for TypeText {
-    ghost text = { λ t. type_text t.0 };
-
-    ghost most = { λ _. 10 };
-
-    fn put(self, line: &mut LineText) {
-        match self.0 {
-            SYNC => line.put_str("sync"),
-            DELAY_REQ => line.put_str("delay_req"),
-            FOLLOW_UP => line.put_str("follow_up"),
-            DELAY_RESP => line.put_str("delay_resp"),
-            ANNOUNCE => line.put_str("announce"),
-            SIGNALING => line.put_str("signaling"),
-            message_type => {
-                line.put_octet(message_type);
-                line.put_str("type ");
-            }
+// Puts the name of a messageType, or its number, before what stands in the line.
+fn put_type(message_type: u8, line: &mut LineText)
+    requires { 10 ≤ line.old.room }
+    ensures text { line.new.text ≡ type_text message_type ++ line.old.text }
+    ensures room { line.old.room ≤ line.new.room + 10 }
+{
+    match message_type {
+        SYNC => line.put_str("sync"),
+        DELAY_REQ => line.put_str("delay_req"),
+        FOLLOW_UP => line.put_str("follow_up"),
+        DELAY_RESP => line.put_str("delay_resp"),
+        ANNOUNCE => line.put_str("announce"),
+        SIGNALING => line.put_str("signaling"),
+        message_type => {
+            line.put_octet(message_type);
+            line.put_str("type ");
         }
     }
 }
 
-// Seconds and nanoseconds.
-#[derive(Clone, Copy)]
-struct StampText(Stamp);
-
-impl LinePart for StampText {
-    ghost text = { λ s. stamp_text s.0 };
-
-    ghost most = { λ _. 48 };
-
-    fn put(self, line: &mut LineText) {
-        line.put_number(u64::from(self.0.nanos));
-        line.put_str(" ");
-        line.put_number(self.0.seconds);
-        line.put_str(" stamp ");
-    }
+// Puts seconds and nanoseconds.
+fn put_stamp(stamp: Stamp, line: &mut LineText)
+    requires { 48 ≤ line.old.room }
+    ensures text { line.new.text ≡ stamp_text stamp ++ line.old.text }
+    ensures room { line.old.room ≤ line.new.room + 48 }
+{
+    line.put_number(u64::from(stamp.nanos));
+    line.put_str(" ");
+    line.put_number(stamp.seconds);
+    line.put_str(" stamp ");
 }
 
-// Code, logarithm and seconds.
-#[derive(Clone, Copy)]
-struct AskText(Ask);
-
-impl LinePart for AskText {
-    ghost text = { λ a. ask_text a.0 };
-
-    ghost most = { λ _. 29 };
-
-    fn put(self, line: &mut LineText) {
-        line.put_number(u64::from(self.0.seconds));
-        line.put_str(" ");
-        line.put_signed(self.0.log);
-        line.put_str(" ");
-        line.put_octet(self.0.code);
-    }
+// Puts a name of at most nine octets, and behind it code, logarithm and seconds.
+fn put_ask(name: &'static str, ask: Ask, line: &mut LineText)
+    requires short { length name.now ≤ 9 }
+    requires room { 38 ≤ line.old.room }
+    ensures text { line.new.text ≡ (name.now ++ ask_text ask) ++ line.old.text }
+    ensures room { line.old.room ≤ line.new.room + 38 }
+{
+    line.put_number(u64::from(ask.seconds));
+    line.put_str(" ");
+    line.put_signed(ask.log);
+    line.put_str(" ");
+    line.put_octet(ask.code);
+    line.put_str(name);
 }
 
-// A TLV behind a space.
-#[derive(Clone, Copy)]
-struct TlvText(Tlv);
-
-impl LinePart for TlvText {
-    ghost text = { λ t. tlv_text t.0 };
-
-    ghost most = { λ _. 48 };
-
-    fn put(self, line: &mut LineText) {
-        match self.0 {
-            Tlv::Request(ask) => {
-                AskText(ask).put(line);
-                line.put_str(" request ");
-            }
-            Tlv::Grant(ask, renewal) => {
-                line.put_str(if renewal { " 1" } else { " 0" });
-                AskText(ask).put(line);
-                line.put_str(" grant ");
-            }
-            Tlv::Cancel(code) => {
-                line.put_octet(code);
-                line.put_str(" cancel ");
-            }
-            Tlv::Ack(code) => {
-                line.put_octet(code);
-                line.put_str(" ack ");
-            }
-            Tlv::Other { tlv_type, length } => {
-                line.put_number(u64::from(length));
-                line.put_str(" ");
-                line.put_number(u64::from(tlv_type));
-                line.put_str(" other ");
-            }
+// Puts a TLV behind a space.
+fn put_tlv(tlv: &Tlv, line: &mut LineText)
+    requires { 48 ≤ line.old.room }
+    ensures text { line.new.text ≡ tlv_text tlv.now ++ line.old.text }
+    ensures room { line.old.room ≤ line.new.room + 48 }
+{
+    match *tlv {
+        Tlv::Request(ask) => put_ask(" request ", ask, line),
+        Tlv::Grant(ask, renewal) => {
+            line.put_str(if renewal { " 1" } else { " 0" });
+            put_ask(" grant ", ask, line);
+        }
+        Tlv::Cancel(code) => {
+            line.put_octet(code);
+            line.put_str(" cancel ");
+        }
+        Tlv::Ack(code) => {
+            line.put_octet(code);
+            line.put_str(" ack ");
+        }
+        Tlv::Other { tlv_type, length } => {
+            line.put_number(u64::from(length));
+            line.put_str(" ");
+            line.put_number(u64::from(tlv_type));
+            line.put_str(" other ");
         }
     }
 }
@@ -117,7 +95,7 @@ fn put_tlvs(tlvs: &[Tlv], draft: &mut Draft) -> Result<(), OutOfMemory>
 {
     for tlv in tlvs {
         let mut line = LineText::new();
-        TlvText(*tlv).put(&mut line);
+        put_tlv(tlv, &mut line);
         draft.put_line(&line)?;
     }
     Ok(())
@@ -147,13 +125,13 @@ impl Text for BodyText<'_> {
         let mut line = LineText::new();
         match self.0 {
             Body::Sync(stamp) | Body::DelayReq(stamp) | Body::FollowUp(stamp) => {
-                StampText(*stamp).put(&mut line);
+                put_stamp(*stamp, &mut line);
                 draft.put_line(&line)
             }
             Body::DelayResp(stamp, requester) => {
                 IdentityText(*requester).put(&mut line);
                 line.put_str(" to ");
-                StampText(*stamp).put(&mut line);
+                put_stamp(*stamp, &mut line);
                 draft.put_line(&line)
             }
             Body::Announce(body) => {
@@ -202,7 +180,7 @@ impl MessageText<'_> {
         line.put_str(" domain ");
         line.put_number(u64::from(self.length));
         line.put_str(" length ");
-        TypeText(header.message_type).put(line);
+        put_type(header.message_type, line);
         line.put_str(" ");
         line.put_number(number);
     }

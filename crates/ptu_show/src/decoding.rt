@@ -1,18 +1,18 @@
 //! The call `show`: decodes one datagram in each line of input.
 
 ghost use Rattle.std.specs.Prelude.{◌≡◌, ◌++◌, ◌∷◌, [], ℕ, List, Some, IfOk, OnOk, OnErr};
-ghost use Rattle.ptu_report.specs.Runs.{HasRunThrough, IfWritten};
+ghost use Rattle.ptu_report.specs.{Reported.{HasWritten}, Runs.{HasRunThrough, IfWritten}};
 ghost use Rattle.ptu_show.specs.Datagram.{datagram_text};
-ghost use Rattle.ptu_show.specs.Shown.{numbered_line, shown_lines, show_rules, HasShowCause, HasShown};
+ghost use Rattle.ptu_show.specs.Shown.{numbered_line, shown_ending, shown_lines, show_rules, HasShowCause};
 
 use crate::datagram::MessageText;
-use crate::fault::LabFault;
+use crate::fault::{LabFault, ShowStepped};
 use crate::lines::ShowLine;
 use crate::reading::read_datagram;
 use ptu_lines::{FaultText, LineCause};
 use ptu_messages::{MessageFault, read_message};
 use ptu_outside::{Sink, Source};
-use ptu_report::{Reporter, Stepped, Texts, run};
+use ptu_report::{Reporter, Texts, run};
 use ptu_script::Cause;
 use ptu_units::sizes::LONGEST_DATAGRAM;
 use ptu_units::{OutOfMemory, u16_at};
@@ -62,13 +62,7 @@ impl Reporter for Decoder {
     ghost stands_for = { λ _ _. Unit {0} };
 
     #[inline(always)]
-    fn take(
-        &mut self,
-        alloc: Global,
-        number: u64,
-        line: &[u8],
-        texts: &mut Texts,
-    ) -> Stepped<Cause> {
+    fn take(&mut self, alloc: Global, number: u64, line: &[u8], texts: &mut Texts) -> ShowStepped {
         match read_datagram(line, &mut self.room) {
             Ok(None) => Ok(None),
             Ok(Some(size)) => {
@@ -79,7 +73,7 @@ impl Reporter for Decoder {
         }
     }
 
-    fn close(&mut self, _: Global, lines: u64, texts: &mut Texts) -> Stepped<Cause> {
+    fn close(&mut self, _: Global, lines: u64, texts: &mut Texts) -> ShowStepped {
         texts.add_text(&ShowLine::End { lines })?;
         Ok(None)
     }
@@ -111,7 +105,8 @@ pub fn show<S: Source, K: Sink>(
 ) -> Result<u64, LabFault>
     // The whole output was written, and the answer says how it ends.
     ensures whole { (input : List ℕ) → S.left source.old ≡ Some input → IfWritten result
-        (λ ending. HasShown K.written K.handed sink.old sink.new input ending) }
+        (λ ending. HasWritten K.written K.handed sink.old sink.new
+        (shown_lines input) (shown_ending input) ending) }
     ensures causes { (input : List ℕ) → S.left source.old ≡ Some input
         → IfWritten result HasShowCause }
     // What was read and written, whatever is answered.

@@ -6,9 +6,8 @@ ghost use Rattle.std.specs.Io.KnownBytes.{append_known};
 ghost use Rattle.ptu_outside.specs.Handing.{HasPut, HasPutPart};
 ghost use Rattle.ptu_report.specs.Runs.{CountsWrite};
 ghost use Rattle.ptu_show.specs.Generated.{IsWriteOrMemory, client_text, load_text};
-ghost use Rattle.ptu_show.specs.Generated.{ask_lines, turn_lines, turn_lines_at};
-ghost use Rattle.ptu_show.specs.Generated.{generated, generated_lines};
-ghost use Rattle.ptu_show.specs.Generated.{log_by, number_after, request_of};
+ghost use Rattle.ptu_show.specs.Generated.{ask_lines, generated, generated_lines, log_by};
+ghost use Rattle.ptu_show.specs.Generated.{number_after, request_of, turn_lines};
 ghost use Rattle.ptu_show.specs.Whole.{LoadsAreWhole};
 ghost use Rattle.ptu_show.specs.LoadSamples.{LinesAre, LinesAreCounted, LogarithmsAre, QuotientsAre};
 
@@ -197,32 +196,17 @@ fn put_clients<K: Sink>(alloc: Global, clients: u64, sink: &mut K) -> Result<(),
     Ok(())
 }
 
-// Writes the lines of one second, in which each table takes a turn.
-fn put_turns_at<K: Sink>(alloc: Global, second: u64, sink: &mut K) -> Result<(), LabFault>
-    requires { second ≤ 8 }
-    ensures whole { OnOk result (HasPut K.written K.handed sink.old sink.new
-        (turn_lines_at second)) }
-    ensures part { OnErr result (HasPutPart K.written K.handed sink.old sink.new
-        (turn_lines_at second)) }
-    ensures cause { IfErr result IsWriteOrMemory }
-    ensures counts { CountsWrite result (K.faults sink.old) (K.faults sink.new) }
-{
-    let moment = second * NANOS_PER_SECOND;
-    for table in 0..4 {
-        put_line(alloc, &LoadLine::Turn { moment, table }, sink)?;
-    }
-    Ok(())
-}
-
-// Writes the lines of eight seconds.
+// Writes the lines of eight seconds, in each of which each table takes a turn.
 fn put_turns<K: Sink>(alloc: Global, sink: &mut K) -> Result<(), LabFault>
     ensures whole { OnOk result (HasPut K.written K.handed sink.old sink.new (turn_lines 8)) }
     ensures part { OnErr result (HasPutPart K.written K.handed sink.old sink.new (turn_lines 8)) }
     ensures cause { IfErr result IsWriteOrMemory }
     ensures counts { CountsWrite result (K.faults sink.old) (K.faults sink.new) }
 {
-    for second in 1..9 {
-        put_turns_at(alloc, second, sink)?;
+    for turn in 0..32_u64 {
+        let moment = (1 + turn / 4) * NANOS_PER_SECOND;
+        let table = turn % 4;
+        put_line(alloc, &LoadLine::Turn { moment, table }, sink)?;
     }
     Ok(())
 }

@@ -2,7 +2,7 @@
 
 ghost use Rattle.std.specs.Prelude.{◌≡◌, ◌++◌, [], OnOk, codes};
 ghost use Rattle.hex.specs.Hex.{encode_lower};
-ghost use Rattle.ptu_show.specs.{JoinLines.{join_line_text}, Shown.{numbered_line}};
+ghost use Rattle.ptu_show.specs.{Joined.{join_line_text}, Shown.{numbered_line}};
 
 use ptu_lines::{Draft, LinePart, LineText, OctetsText, Text};
 use ptu_script::Cause;

@@ -1,13 +1,13 @@
 //! The call `join`: merges each two-step Sync with its Follow_Up.
 
 ghost use Rattle.std.specs.Prelude.{◌≡◌, ◌++◌, ◌∷◌, [], ℕ, List, Some, true, IfOk, IfSome, OnOk};
-ghost use Rattle.ptu_report.specs.Runs.{HasRunThrough, IfWritten};
+ghost use Rattle.ptu_report.specs.{Reported.{HasWritten}, Runs.{HasRunThrough, IfWritten}};
 ghost use Rattle.ptu_show.specs.Halves.{half_in, is_other};
 ghost use Rattle.ptu_show.specs.Joined.{half_text, halves_of, join_rules};
-ghost use Rattle.ptu_show.specs.Joined.{joined_lines, text_behind, HasJoined, HasJoinCause};
+ghost use Rattle.ptu_show.specs.Joined.{joined_ending, joined_lines, text_behind, HasJoinCause};
 ghost use Rattle.ptu_show.specs.{Shown.{numbered_line}, Waiting.{IsHalf, StandsFor}};
 
-use crate::fault::JoinFault;
+use crate::fault::{JoinFault, JoinStepped};
 use crate::half::Half;
 use crate::halving::read_half;
 use crate::join_lines::JoinLine;
@@ -16,7 +16,7 @@ use crate::waiting::Waiting;
 use ptu_lines::{LineCause, OctetsText};
 use ptu_messages::write_fixed;
 use ptu_outside::{Sink, Source};
-use ptu_report::{Reporter, Stepped, Texts, run};
+use ptu_report::{Reporter, Texts, run};
 use ptu_script::Cause;
 use ptu_units::OutOfMemory;
 use ptu_units::sizes::{ANNOUNCE_LENGTH, LONGEST_DATAGRAM};
@@ -103,13 +103,7 @@ impl Reporter for Joiner {
     ghost stands_for = { λ joiner past. StandsFor joiner.waiting.kept (halves_of past) };
 
     #[inline(always)]
-    fn take(
-        &mut self,
-        alloc: Global,
-        number: u64,
-        line: &[u8],
-        texts: &mut Texts,
-    ) -> Stepped<LineCause> {
+    fn take(&mut self, alloc: Global, number: u64, line: &[u8], texts: &mut Texts) -> JoinStepped {
         match read_datagram(line, &mut self.room) {
             Ok(None) => Ok(None),
             Ok(Some(size)) => {
@@ -121,7 +115,7 @@ impl Reporter for Joiner {
         }
     }
 
-    fn close(&mut self, _: Global, lines: u64, texts: &mut Texts) -> Stepped<LineCause> {
+    fn close(&mut self, _: Global, lines: u64, texts: &mut Texts) -> JoinStepped {
         let keys = self.waiting.count() as u64;
         texts.add_text(&JoinLine::End { lines, keys })?;
         Ok(None)
@@ -158,7 +152,8 @@ pub fn join<S: Source, K: Sink>(
 ) -> Result<u64, JoinFault>
     // The whole output was written, and the answer says how it ends.
     ensures whole { (input : List ℕ) → S.left source.old ≡ Some input → IfWritten result
-        (λ ending. HasJoined K.written K.handed sink.old sink.new input ending) }
+        (λ ending. HasWritten K.written K.handed sink.old sink.new
+        (joined_lines input) (joined_ending input) ending) }
     ensures causes { (input : List ℕ) → S.left source.old ≡ Some input
         → IfWritten result HasJoinCause }
     // What was read and written, whatever is answered.

@@ -1,7 +1,7 @@
 //! The lines that `show` writes.
 
 ghost use Rattle.std.specs.Prelude.{◌≡◌, ◌++◌, OnOk};
-ghost use Rattle.ptu_show.specs.Lines.{show_line_text};
+ghost use Rattle.ptu_show.specs.Shown.{show_line_text};
 
 use crate::datagram::MessageText;
 use ptu_lines::{Draft, FaultText, LinePart, LineText, Text};

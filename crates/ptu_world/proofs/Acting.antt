@@ -35,15 +35,13 @@ by_node w ip t from octets (Some node) = refl
 
 by_grandmaster : (w : World) (ip : ℕ) (deed : Grandmaster → Deed) (o : Option Node)
     → (grandmaster_by o >>= λ g. Ok (done_by w ip (deed g))) ≡ (or_cause causes.Node o >>= λ n. after_acted w ip (of_grandmaster deed n) (Ok w.stock))
-by_grandmaster w ip deed None = refl
 by_grandmaster w ip deed (Some (IsGrandmaster g)) = refl
-by_grandmaster w ip deed (Some (IsSlave s)) = refl
+by_grandmaster w ip deed o = refl
 
 by_slave : (w : World) (ip : ℕ) (deed : Slave → Deed) (o : Option Node)
     → (slave_by o >>= λ s. Ok (done_by w ip (deed s))) ≡ (or_cause causes.Node o >>= λ n. after_acted w ip (of_slave deed n) (Ok w.stock))
-by_slave w ip deed None = refl
-by_slave w ip deed (Some (IsGrandmaster g)) = refl
 by_slave w ip deed (Some (IsSlave s)) = refl
+by_slave w ip deed o = refl
 
 placed_master : (w : World) (ip : ℕ) (s : Slave) (deed : Slave → ℕ → Deed) (place : Option ℕ)
     → (or_cause causes.Node place >>= λ m. Ok (done_by w ip (deed s m))) ≡ after_acted w ip (or_cause causes.Node place >>= λ m. Ok (deed s m)) (Ok w.stock)
@@ -53,9 +51,8 @@ placed_master w ip s deed (Some m) = refl
 by_master : (w : World) (ip master : ℕ) (deed : Slave → ℕ → Deed) (o : Option Node)
     → (slave_by o >>= λ s. place_in s master >>= λ m. Ok (done_by w ip (deed s m)))
     ≡ (or_cause causes.Node o >>= λ n. after_acted w ip (of_master master deed n) (Ok w.stock))
-by_master w ip master deed None = refl
-by_master w ip master deed (Some (IsGrandmaster g)) = refl
 by_master w ip master deed (Some (IsSlave s)) = placed_master w ip s deed (place_of (s.opened.masters) master)
+by_master w ip master deed o = refl
 
 placed_judge : (w : World) (ip : ℕ) (s : Slave) (rule : Rule) (deed : Slave → ℕ → Deed) (place : Option ℕ)
     → (or_cause causes.Node place >>= λ m. stock_without rule w.stock >>= λ stock. Ok (done_by (record w { stock = stock }) ip (deed s m)))
@@ -66,9 +63,8 @@ placed_judge w ip s rule deed (Some m) = refl
 by_judge : (w : World) (ip master : ℕ) (rule : Rule) (deed : Slave → ℕ → Deed) (o : Option Node)
     → (slave_by o >>= λ s. place_in s master >>= λ m. stock_without rule w.stock >>= λ stock. Ok (done_by (record w { stock = stock }) ip (deed s m)))
     ≡ (or_cause causes.Node o >>= λ n. after_acted w ip (of_master master deed n) (stock_without rule w.stock))
-by_judge w ip master rule deed None = refl
-by_judge w ip master rule deed (Some (IsGrandmaster g)) = refl
 by_judge w ip master rule deed (Some (IsSlave s)) = placed_judge w ip s rule deed (place_of (s.opened.masters) master)
+by_judge w ip master rule deed o = refl
 
 -- ---- an event
 

@@ -3,7 +3,7 @@
 use Rattle.std.proofs.Common.{◌≡◌, ◌∙◌, ℕ, suc, ◌+◌, ◌*◌, ◌-◌, ◌^◌, ◌≤◌, ◌==◌, Bool, true, false, cond, List, [], ◌∷◌, ◌++◌, length, map, Option, Some, None, Result, Ok, Err, IfOk, refl, sym, ap, arith}
 use Rattle.std.proofs.lemmas.List.{length-map}
 use Rattle.std.specs.List.{count_by}
-use Rattle.std.proofs.lemmas.List.Sums.{count_by-le-length, sum_by-append, sum_by-cons}
+use Rattle.std.proofs.lemmas.List.Sums.{count_by-le-length, sum_by-cons}
 use Rattle.ptu_lines.specs.Script.{ScriptLine, Whole, Refused, script_lines}
 use Rattle.ptu_report.proofs.FewLines.{few_lines}
 use Rattle.ptu_messages.specs.declared.header.Header.{Header}
@@ -82,15 +82,11 @@ is_decided_line (End lines datagrams) = false
 
 granted_decided : (line : ReportLine) → cond (is_granted_line line) 1 0 ≤ cond (is_decided_line line) 1 0
 granted_decided (At n (statements.Decided (decisions.Granted k log x until))) = omega arith
-granted_decided (At n (statements.Decided _)) = omega arith
-granted_decided (At n _) = omega arith
-granted_decided (End lines datagrams) = omega arith
+granted_decided _ = omega arith
 
 short_decided : (line : ReportLine) → cond (is_short_line line) 1 0 ≤ cond (is_decided_line line) 1 0
 short_decided (At n (statements.Decided (decisions.Short k log x others rate capacity))) = omega arith
-short_decided (At n (statements.Decided _)) = omega arith
-short_decided (At n _) = omega arith
-short_decided (End lines datagrams) = omega arith
+short_decided _ = omega arith
 
 -- ---- a Signaling has few items
 
@@ -114,11 +110,7 @@ few_by config octets header (body.Signaling target tlvs) spells = by (items_by c
     by (Ok items) h = h
     by (Err reason) h = tt
 few_by config octets header (body.DelayReq stamp) spells = in_either HasFewItems (header.domain == config.domain) (Ok (DelayReq header)) (ignored.Domain header.domain) tt
-few_by config octets header (body.Sync stamp) spells = tt
-few_by config octets header (body.FollowUp stamp) spells = tt
-few_by config octets header (body.DelayResp stamp requester) spells = tt
-few_by config octets header (body.Announce announced) spells = tt
-few_by config octets header body.Ignored spells = tt
+few_by config octets header b spells = tt
 
 few_heard : (config : GmConfig) (octets : List ℕ) → IfOk (heard_in config octets) HasFewItems
 unfolding heard_in
@@ -155,8 +147,7 @@ few_decisions g t from header items few =
 
 not_of_answer : (x : ℕ) (answer : Answer) → is_decided (gm.answer_said x answer) ≡ false
 not_of_answer x events.Answered = refl
-not_of_answer x events.NoGrant = refl
-not_of_answer x (events.TooSoon earliest) = refl
+not_of_answer x answer = refl
 
 no_more_than : (n : ℕ) → n ≡ 0 → n ≤ 32
 no_more_than n none = omega (arith, none)
@@ -172,25 +163,15 @@ none_received (signal ∷ list) = none_first is_decided (slaves.signal_said sign
   where
     by : (signal : Signal) → is_decided (slaves.signal_said signal) ≡ false
     by (signals.Grant k seconds) = refl
-    by (signals.Denial k) = refl
-    by (signals.Cancel code) = refl
-    by (signals.Ack code) = refl
+    by signal = refl
 
 none_heard : (masters : List Master) (h : slave_heard.Heard) → count_by is_decided (slaves.heard_said masters h) ≡ 0
-none_heard masters (slave_heards.Ignored reason) = refl
-none_heard masters (slave_heards.Announce x m class) = refl
-none_heard masters (slave_heards.Sync x m number) = refl
-none_heard masters (slave_heards.FollowUp x m) = refl
-none_heard masters (slave_heards.DelayResp x m number) = refl
 none_heard masters (slave_heards.Signals x m list reply) = none_received list
+none_heard masters h = refl
 
 slave_few : (s : Slave) (t : ℕ) (deed : slave.Deed) (h : slave_heard.Heard) → HasFew (slaves.heard_deed s t deed h)
 slave_few s t deed (slave_heards.Ignored reason) = (no_more_than _ (none_heard s.opened.masters (slave_heards.Ignored reason)), refl)
-slave_few s t deed (slave_heards.Announce x m class) = (no_more_than _ (none_heard s.opened.masters (slave_heards.Announce x m class)), refl)
-slave_few s t deed (slave_heards.Sync x m number) = (no_more_than _ (none_heard s.opened.masters (slave_heards.Sync x m number)), refl)
-slave_few s t deed (slave_heards.FollowUp x m) = (no_more_than _ (none_heard s.opened.masters (slave_heards.FollowUp x m)), refl)
-slave_few s t deed (slave_heards.DelayResp x m number) = (no_more_than _ (none_heard s.opened.masters (slave_heards.DelayResp x m number)), refl)
-slave_few s t deed (slave_heards.Signals x m list reply) = (no_more_than _ (none_heard s.opened.masters (slave_heards.Signals x m list reply)), refl)
+slave_few s t deed h = (no_more_than _ (none_heard s.opened.masters h), refl)
 
 given_few : (node : Node) (t from : ℕ) (octets : List ℕ) → HasFew (datagram_deed node t from octets)
 given_few (IsGrandmaster g) t from octets = gm_few g t from (heard_in g.config octets) (few_heard g.config octets)

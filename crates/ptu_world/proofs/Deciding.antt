@@ -8,7 +8,7 @@ use Rattle.ptu_units.specs.declared.client.Client.{Client}
 use Rattle.ptu_history.specs.Core.{history_after}
 use Rattle.ptu_history.specs.History.{Record, capacity_in_force}
 use Rattle.ptu_history.specs.Verdict as verdicts
-use Rattle.ptu_history.specs.Verdict.{Config, Verdict, GrantedFor, ShortOf, Outside, OutsideCause, OutsideLog, OutsideDuration, granted_seconds, is_log_of, others, profile, profile_of, verdict}
+use Rattle.ptu_history.specs.Verdict.{Config, Verdict, GrantedFor, ShortOf, OutsideCause, OutsideLog, OutsideDuration, granted_seconds, is_log_of, others, profile, profile_of, verdict}
 use Rattle.ptu_history.proofs.Verdicts.{verdict-outside, verdict-within}
 use Rattle.ptu_laws.specs.Granted.{is_granted}
 use Rattle.ptu_laws.proofs.Verdicts.{granted_where_room, short_where_no_room}
@@ -52,16 +52,7 @@ taken_by w (commands.Deliver t number) d node e n = by (datagram_numbered number
         let same : d ≡ delivery t sent = cc in
         subst (λ x. node_at w.nodes x.node ≡ Some node → ◌≡◌ {A = Result Done Cause} (Ok (delivered_to w t sent (node_at w.nodes sent.to))) (Ok (done_by w x.node (datagram_deed node x.at x.from x.octets)))) (sym same)
         (λ m. ap {B = Result Done Cause} (λ o. Ok (delivered_to w t sent o)) m) n
-taken_by w (commands.Grandmaster setup) d node e n = absurd cc
-taken_by w (commands.Slave setup) d node e n = absurd cc
-taken_by w (commands.Master slave ip priority rule) d node e n = absurd cc
-taken_by w (commands.Event t ip (acts.Turn table)) d node e n = absurd cc
-taken_by w (commands.Event t ip acts.Tick) d node e n = absurd cc
-taken_by w (commands.Event t ip (acts.Flag master unusable)) d node e n = absurd cc
-taken_by w (commands.Event t ip (acts.Judge master rule)) d node e n = absurd cc
-taken_by w (commands.Event t ip acts.Stop) d node e n = absurd cc
-taken_by w (commands.Event t ip (acts.Class class)) d node e n = absurd cc
-taken_by w (commands.Event t ip (acts.Capacity capacity)) d node e n = absurd cc
+taken_by w command d node e n = absurd cc
 
 -- ---- its place among the items
 
@@ -103,8 +94,7 @@ replies-some g t from header (i ∷ list) item rest = refl
 -- what is said of a verdict has its moment, where that is said
 verdict_at : (ask : Ask) (x : ℕ) (v : Verdict) → gm.verdict_said ask (unwrap_or (moment_of_verdict x v) 0) v ≡ gm.verdict_said ask x v
 verdict_at ask x (GrantedFor k l seconds until) = refl
-verdict_at ask x (ShortOf k l others rate capacity) = refl
-verdict_at ask x (Outside cause) = refl
+verdict_at ask x v = refl
 
 module _ (w : World) (command : Command) (r : Request) (is : IsHanded w command r) where
   abbrev opened : Config
@@ -201,8 +191,7 @@ module _ (opened : Config) (h : List Record) (x : ℕ) (c : Client) (ask : Ask) 
 
 denies : (ask : Ask) (v : Verdict) → is_granted v ≡ false → answer_by ask v ≡ denial_of ask
 denies ask (GrantedFor k l seconds until) e = absurd (false≢true (sym e))
-denies ask (ShortOf k l others rate capacity) e = refl
-denies ask (Outside cause) e = refl
+denies ask v e = refl
 
 pub is_decided : (ip : ℕ) (r : Request) → IsRun ip r.gm → IsDecidedByRoom r
 is_decided ip r run = record {

@@ -13,7 +13,7 @@ use Rattle.ptu_history.specs.Events.{Event}
 use Rattle.ptu_gm_messages.specs.declared.item.Item.{Item}
 use Rattle.ptu_gm_messages.specs.declared.item.Item.TheVariants as items
 use Rattle.ptu_gm_messages.specs.declared.heard.Heard as gm_heard
-use Rattle.ptu_gm_messages.specs.declared.heard.Heard.TheVariants.{DelayReq, Asks}
+use Rattle.ptu_gm_messages.specs.declared.heard.Heard.TheVariants.{DelayReq}
 use Rattle.ptu_gm_messages.specs.{declared.reason.GmReason.{GmReason}, Items.{heard_in}}
 use Rattle.ptu_gm_messages.specs.Deciding.{events_heard, events_of_datagram, events_of_items, item_records}
 use Rattle.ptu_gm_messages.proofs.Placing.{history_after-items}
@@ -45,9 +45,8 @@ gone g taken = record g { past = history_after (gm.opening g) g.past taken }
 
 pub heard_node : (g : Grandmaster) (t from : ℕ) (heard : Result gm_heard.Heard GmReason) → (gm.heard_deed g t from heard).node ≡ IsGrandmaster (gone g (events_heard t from heard))
 unfolding history_after
-heard_node g t from (Err reason) = refl
 heard_node g t from (Ok (DelayReq header)) = refl
-heard_node g t from (Ok (Asks header items)) = refl
+heard_node g t from heard = refl
 
 pub datagram_goes : (w : World) (command : Command) (d : Handed) (g : Grandmaster) → handed_by w command ≡ Some d → node_at w.nodes d.node ≡ Some (IsGrandmaster g)
     → GoesOn w command d.node g (events_of_datagram g.config d.at d.from d.octets)

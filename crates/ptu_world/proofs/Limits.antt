@@ -8,8 +8,8 @@ use Rattle.ptu_script.specs.{Cause.{named}, declared.command.Command.{Command}}
 use Rattle.ptu_script.specs.declared.act.Act.TheVariants as acts
 use Rattle.ptu_script.specs.declared.command.Command.TheVariants as commands
 use Rattle.ptu_script.specs.declared.{command.GrandmasterSetup.{GrandmasterSetup}, verb.Verb.{Verb}}
-use Rattle.ptu_script.specs.declared.verb.Verb.TheVariants.{Gm, Slave, Master, Rx, Deliver, Turn, Tick, Flag, Judge, Stop, Class, Capacity}
-use Rattle.ptu_script.specs.Command.{command_in, command_of, fields_in, grandmaster_in, is_comment, moment_of, slave_in}
+use Rattle.ptu_script.specs.declared.verb.Verb.TheVariants.{Gm, Slave, Master, Rx, Deliver, Turn, Flag, Judge, Class, Capacity}
+use Rattle.ptu_script.specs.Command.{act_in, command_in, command_of, event_in, fields_in, grandmaster_in, is_comment, moment_of, slave_in}
 use Rattle.ptu_script.specs.Fields.{◌>>=◌, capacity_of, domain_of, duration_of, field, from_to, or_field, port_number_of, rule_named, truth_of}
 use Rattle.ptu_script.specs.{Limits.{IsGrandmasterWithin}, Verb.{is_counted, name_of, verb_in, verbs}}
 
@@ -77,6 +77,19 @@ grandmaster_within line =
       max_duration = number_is least_duration greatest_duration 8 longest line is_longest;
     })))))))
 
+act_within : (verb : Verb) (line : List ℕ) (at node : ℕ) → IfOk (act_in verb line) (λ act. IsWithin (commands.Event at node act))
+act_within Rx line at node = ok_bound (λ act. IsWithin (commands.Event at node act)) (field 4 ip_of line) _ (λ x0 _. ok_bound (λ act. IsWithin (commands.Event at node act)) (field 5 octets_of line) _ (λ x1 _. tt))
+act_within Turn line at node = ok_bound (λ act. IsWithin (commands.Event at node act)) (field 4 (from_to 0 3) line) _ (λ x0 _. tt)
+act_within Flag line at node = ok_bound (λ act. IsWithin (commands.Event at node act)) (field 4 ip_of line) _ (λ x0 _. ok_bound (λ act. IsWithin (commands.Event at node act)) (field 5 truth_of line) _ (λ x1 _. tt))
+act_within Judge line at node = ok_bound (λ act. IsWithin (commands.Event at node act)) (field 4 ip_of line) _ (λ x0 _. ok_bound (λ act. IsWithin (commands.Event at node act)) (field 5 rule_named line) _ (λ x1 _. tt))
+act_within Capacity line at node =
+    ok_bound (λ act. IsWithin (commands.Event at node act)) (field 4 capacity_of line) _ (λ capacity e. number_is least_capacity greatest_capacity 4 capacity line e)
+act_within verb line at node = tt
+
+event_within : (verb : Verb) (line : List ℕ) → IfOk (event_in verb line) IsWithin
+event_within verb line = ok_bound IsWithin (field 2 moment_of line) _ (λ at _. ok_bound IsWithin (field 3 ip_of line) _ (λ node _. ok_bound IsWithin (act_in verb line) _ (λ act e.
+    subst (λ r. IfOk r (λ told. IsWithin (commands.Event at node told))) e (act_within verb line at node))))
+
 fields_within : (verb : Verb) (line : List ℕ) → IfOk (fields_in verb line) IsWithin
 unfolding fields_in
 fields_within Gm line = by (grandmaster_in line) (grandmaster_within line)
@@ -86,16 +99,9 @@ fields_within Gm line = by (grandmaster_in line) (grandmaster_within line)
     by (Err cause) h = tt
 fields_within Slave line = ok_bound IsWithin (slave_in line) _ (λ x0 _. tt)
 fields_within Master line = ok_bound IsWithin (field 2 ip_of line) _ (λ x0 _. ok_bound IsWithin (field 3 ip_of line) _ (λ x1 _. ok_bound IsWithin (field 4 (from_to 0 255) line) _ (λ x2 _. ok_bound IsWithin (field 5 rule_named line) _ (λ x3 _. tt))))
-fields_within Rx line = ok_bound IsWithin (field 2 moment_of line) _ (λ x0 _. ok_bound IsWithin (field 3 ip_of line) _ (λ x1 _. ok_bound IsWithin (field 4 ip_of line) _ (λ x2 _. ok_bound IsWithin (field 5 octets_of line) _ (λ x3 _. tt))))
 fields_within Deliver line = ok_bound IsWithin (field 2 moment_of line) _ (λ x0 _. ok_bound IsWithin (field 3 (from_to 0 (2 ^ 64 - 1)) line) _ (λ x1 _. tt))
-fields_within Turn line = ok_bound IsWithin (field 2 moment_of line) _ (λ x0 _. ok_bound IsWithin (field 3 ip_of line) _ (λ x1 _. ok_bound IsWithin (field 4 (from_to 0 3) line) _ (λ x2 _. tt)))
-fields_within Tick line = ok_bound IsWithin (field 2 moment_of line) _ (λ x0 _. ok_bound IsWithin (field 3 ip_of line) _ (λ x1 _. tt))
-fields_within Flag line = ok_bound IsWithin (field 2 moment_of line) _ (λ x0 _. ok_bound IsWithin (field 3 ip_of line) _ (λ x1 _. ok_bound IsWithin (field 4 ip_of line) _ (λ x2 _. ok_bound IsWithin (field 5 truth_of line) _ (λ x3 _. tt))))
-fields_within Judge line = ok_bound IsWithin (field 2 moment_of line) _ (λ x0 _. ok_bound IsWithin (field 3 ip_of line) _ (λ x1 _. ok_bound IsWithin (field 4 ip_of line) _ (λ x2 _. ok_bound IsWithin (field 5 rule_named line) _ (λ x3 _. tt))))
-fields_within Stop line = ok_bound IsWithin (field 2 moment_of line) _ (λ x0 _. ok_bound IsWithin (field 3 ip_of line) _ (λ x1 _. tt))
 fields_within Class line = ok_bound IsWithin (field 2 ip_of line) _ (λ x0 _. ok_bound IsWithin (field 3 (from_to 0 255) line) _ (λ x1 _. tt))
-fields_within Capacity line = ok_bound IsWithin (field 2 moment_of line) _ (λ x0 _. ok_bound IsWithin (field 3 ip_of line) _ (λ x1 _.
-    ok_bound IsWithin (field 4 capacity_of line) _ (λ capacity e. number_is least_capacity greatest_capacity 4 capacity line e)))
+fields_within verb line = event_within verb line
 
 in_within : (line : List ℕ) → IfOk (command_in line) IsWithin
 in_within line = ok_bound IsWithin (verb_in verbs name_of is_counted line) _ (λ verb _. fields_within verb line)

@@ -18,7 +18,7 @@ use Rattle.ptu_history.specs.{Live.{Grant, IsDistinctByLease}, Runs.{sequence_nu
 use Rattle.ptu_history.specs.Shedding.{shed_grants, shed_record}
 use Rattle.ptu_history.specs.Step.{answer_records, delay_answer, verdict_records}
 use Rattle.ptu_history.specs.Turns.{due_grants, is_due, message_of, sent_record}
-use Rattle.ptu_history.specs.Verdict.{Config, Verdict, GrantedFor, ShortOf, Outside, verdict}
+use Rattle.ptu_history.specs.Verdict.{Config, Verdict, GrantedFor, verdict}
 use Rattle.ptu_units.proofs.Keys.{same_lease-sym}
 use Rattle.ptu_history.proofs.Alike.{sequence_number-alike}
 use Rattle.ptu_history.proofs.LeaseRecords.{lease_records-push}
@@ -124,13 +124,11 @@ delay_sends : (config : GmConfig) (before : List Record) (x from : ℕ) (header 
     → messages_in config.epoch before (answer_records x (client_of from header) answer) ≡ heads (responses answer (response_of config x (client_of from header) header))
 unfolding octets_sent
 delay_sends config before x from header events.Answered = refl
-delay_sends config before x from header events.NoGrant = refl
-delay_sends config before x from header (events.TooSoon earliest) = refl
+delay_sends config before x from header answer = refl
 
 verdict_sends : (epoch : ℕ) (before : List Record) (x : ℕ) (c : Client) (v : Verdict) → messages_in epoch before (verdict_records x c v) ≡ []
 verdict_sends epoch before x c (GrantedFor k l seconds until) = refl
-verdict_sends epoch before x c (ShortOf k l others rate capacity) = refl
-verdict_sends epoch before x c (Outside cause) = refl
+verdict_sends epoch before x c v = refl
 
 item_sends : (epoch : ℕ) (opened : Config) (history : List Record) (t : ℕ) (c : Client) (item : Item) → messages_in epoch history (item_records opened history t c item) ≡ []
 item_sends epoch opened history t c (items.Request ask) = verdict_sends epoch history (item_moment history t c) c (verdict opened history (item_moment history t c) c (asked_by ask))
@@ -262,11 +260,7 @@ module _ (nodes : Nodes) (sent : List Sent) (all : (ip : ℕ) → SentBy ip sent
 
 slave_sent : (ip t : ℕ) (s : Slave) (deed : slave.Deed) (heard : slave_heard.Heard) (sent : List Sent) → SentBy ip sent (Some (slaves.heard_deed s t deed heard).node)
 slave_sent ip t s deed (slave_heards.Ignored reason) sent = tt
-slave_sent ip t s deed (slave_heards.Announce x m class) sent = tt
-slave_sent ip t s deed (slave_heards.Sync x m number) sent = tt
-slave_sent ip t s deed (slave_heards.FollowUp x m) sent = tt
-slave_sent ip t s deed (slave_heards.DelayResp x m number) sent = tt
-slave_sent ip t s deed (slave_heards.Signals x m list reply) sent = tt
+slave_sent ip t s deed heard sent = tt
 
 given_sent : (ip t from : ℕ) (octets : List ℕ) (node : Node) (sent : List Sent) → SentBy ip sent (Some node)
     → SentBy ip (sent ++ map (sent_from ip) (datagram_deed node t from octets).sends) (Some (datagram_deed node t from octets).node)
@@ -274,9 +268,8 @@ given_sent ip t from octets (IsGrandmaster g) sent s = told_at ip sent g _ _ s (
 given_sent ip t from octets (IsSlave x) sent s = slave_sent ip t x (slave.datagram_deed x.opened x.taken t from octets) (slave.datagram_heard x.opened x.taken t from octets) _
 
 found_sent : (ip : ℕ) (sent : List Sent) (g : Grandmaster) (o : Option Node) → SentBy ip sent o → grandmaster_by o ≡ Ok g → filter_map (timing_from ip) sent ≡ messages g
-found_sent ip sent g None s e = absurd cc
-found_sent ip sent g (Some (IsSlave x)) s e = absurd cc
 found_sent ip sent g (Some (IsGrandmaster x)) s e = s ∙ ap messages (let same : x ≡ g = cc in same)
+found_sent ip sent g o s e = absurd cc
 
 nobody_sent : (ip : ℕ) (sent : List Sent) (o : Option Node) → SentBy ip sent o → is_some o ≡ false → filter_map (timing_from ip) sent ≡ []
 nobody_sent ip sent None s e = s

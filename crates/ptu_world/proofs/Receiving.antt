@@ -11,7 +11,7 @@ use Rattle.ptu_record.specs.declared.{rule.Rule.{Rule}, wants.Wants.{Wants}}
 use Rattle.ptu_record.specs.Record as entries
 use Rattle.ptu_record.specs.Record.{Entry, event_moment}
 use Rattle.ptu_record.specs.Judges.{ruled_assessment}
-use Rattle.ptu_record.specs.Step.{Signal, GrantTlv, CancelTlv, AckTlv, SlaveEvent, SlaveSetup, TakeAnnounce, TakeSync, TakeFollowUp, TakeDelayResp, TakeSignaling, TellFlag, ReplaceJudge, Tick, Stop, grant_entry, judged_entries, judged_masters, judged_record, master_count, or_event, own_entries, sendings, signal_entry, slave_step, stop_entry, wanted_kind}
+use Rattle.ptu_record.specs.Step.{Signal, GrantTlv, CancelTlv, AckTlv, SlaveEvent, SlaveSetup, TakeSignaling, TellFlag, ReplaceJudge, Tick, Stop, grant_entry, judged_entries, judged_masters, judged_record, master_count, or_event, own_entries, sendings, signal_entry, slave_step, stop_entry, wanted_kind}
 use Rattle.ptu_record.specs.Tick.{Sending, Requests, Cancels, Acknowledgements, DelayReq, sending_entries}
 use Rattle.ptu_profile.specs.Slave.{place_of}
 use Rattle.ptu_slave_messages.specs.declared.reason.SlaveReason.{SlaveReason}
@@ -68,14 +68,7 @@ module _ (p : Entry → Bool) (asked : (x m : ℕ) (k : Kind) → p (entries.Ask
 
   stop-none : (x : ℕ) (e : SlaveEvent) → filter p (stop_entry x e) ≡ []
   stop-none x Stop = without (entries.Stopped x) [] (stopped x)
-  stop-none x Tick = refl
-  stop-none x (TakeAnnounce m class) = refl
-  stop-none x (TakeSync m number) = refl
-  stop-none x (TakeFollowUp m) = refl
-  stop-none x (TakeDelayResp m number) = refl
-  stop-none x (TakeSignaling m number signals) = refl
-  stop-none x (TellFlag m unusable) = refl
-  stop-none x (ReplaceJudge m rule) = refl
+  stop-none x e = refl
 
   -- of the parts of an event's entries, those of what is sent and of the stop have none of these
   parts : (x : ℕ) (own judged : List Entry) (sent : List Sending) (e : SlaveEvent)
@@ -113,15 +106,8 @@ signal_judged wants x m (CancelTlv code ∷ list) = by (wanted_kind wants code) 
 signal_judged wants x m (AckTlv code ∷ list) = signal_judged wants x m list
 
 own_judged : (wants : Wants) (x : ℕ) (e : SlaveEvent) → filter is_judged (own_entries wants x e) ≡ []
-own_judged wants x (TakeAnnounce m class) = refl
-own_judged wants x (TakeSync m number) = refl
-own_judged wants x (TakeFollowUp m) = refl
-own_judged wants x (TakeDelayResp m number) = refl
 own_judged wants x (TakeSignaling m number signals) = signal_judged wants x m signals
-own_judged wants x (TellFlag m unusable) = refl
-own_judged wants x (ReplaceJudge m rule) = refl
-own_judged wants x Tick = refl
-own_judged wants x Stop = refl
+own_judged wants x e = refl
 
 -- each judge beside what it finds
 judged_each : (x : ℕ) (found : ℕ → Bool) (masters : List ℕ) → map (λ (p : ℕ × Bool). entries.Judged x p.0 p.1) (zip masters (map found masters)) ≡ map (λ m. entries.Judged x m (found m)) masters
@@ -169,21 +155,14 @@ signaling_says wants x m (tlvs.Cancel code ∷ list) = by (wanted_kind wants cod
         ≡ cons_option (option_map (entries.Cancelled x m) o) (filter_map (received_in wants x m) list)
     by None e = e
     by (Some k) e = ap (λ ys. entries.Cancelled x m k ∷ ys) e
-signaling_says wants x m (tlvs.Ack code ∷ list) = signaling_says wants x m list
-signaling_says wants x m (tlvs.Request ask ∷ list) = signaling_says wants x m list
-signaling_says wants x m (tlvs.Other tlv_type length ∷ list) = signaling_says wants x m list
+signaling_says wants x m (tlv ∷ list) = signaling_says wants x m list
 
 own_says : (wants : Wants) (x m : ℕ) (message : Message) → filter is_received (own_entries wants x (event_of m message)) ≡ received_by wants x m message
 own_says wants x m message = by message.body
   where
     by : (b : Body) → filter is_received (own_entries wants x (event_of m (record { header = message.header; body = b }))) ≡ received_by wants x m (record { header = message.header; body = b })
-    by (body.Announce announce) = refl
-    by (body.Sync stamp) = refl
-    by (body.FollowUp stamp) = refl
-    by (body.DelayResp stamp requester) = refl
     by (body.Signaling target list) = signaling_says wants x m list
-    by (body.DelayReq stamp) = refl
-    by body.Ignored = refl
+    by b = refl
 
 pub says : (setup : SlaveSetup) (L : entries.Record) (t m : ℕ) (message : Message)
     → filter is_received (slave_step setup L t (event_of m message)).entries ≡ received_by setup.wants (event_moment L t) m message
@@ -194,11 +173,7 @@ quiet setup L t (TellFlag m unusable) own = received setup L t (TellFlag m unusa
 quiet setup L t (ReplaceJudge m rule) own = received setup L t (ReplaceJudge m rule)
 quiet setup L t Tick own = received setup L t Tick
 quiet setup L t Stop own = received setup L t Stop
-quiet setup L t (TakeAnnounce m class) own = absurd own
-quiet setup L t (TakeSync m number) own = absurd own
-quiet setup L t (TakeFollowUp m) own = absurd own
-quiet setup L t (TakeDelayResp m number) own = absurd own
-quiet setup L t (TakeSignaling m number signals) own = absurd own
+quiet setup L t e own = absurd own
 
 -- ---- datagrams
 
@@ -210,13 +185,8 @@ message_done : (s : Slave) (t : ℕ) (deed : slave.Deed) (wants : Wants) (x : �
 message_done s t deed wants x reply m message = by message.body
   where
     by : (b : Body) → IsDone s t deed (heard_of wants x reply (m, record { header = message.header; body = b }))
-    by (body.Announce announce) = (refl, refl)
-    by (body.Sync stamp) = (refl, refl)
-    by (body.FollowUp stamp) = (refl, refl)
-    by (body.DelayResp stamp requester) = (refl, refl)
-    by (body.Signaling target tlvs) = (refl, refl)
-    by (body.DelayReq stamp) = (refl, refl)
     by body.Ignored = (refl, refl)
+    by b = (refl, refl)
 
 module _ (w : World) (command : Command) (d : Handed) (s : Slave) (node : node_at w.nodes d.node ≡ Some (IsSlave s)) (handed : handed_by w command ≡ Some d) where
   takes : step w command ≡ Ok (done_by w d.node (slaves.datagram_deed s d.at d.from d.octets))

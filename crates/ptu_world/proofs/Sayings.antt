@@ -81,8 +81,7 @@ pub data Says (ip t : ℕ) (deed : Deed) : Type 0 where
 
 answer_plain : (x : ℕ) (answer : Answer) → IsPlain (gm.answer_said x answer ∷ [])
 answer_plain x events.Answered = refl
-answer_plain x events.NoGrant = refl
-answer_plain x (events.TooSoon earliest) = refl
+answer_plain x answer = refl
 
 decision_plain : (d : Decision) → is_plain (gm.decision_said d) ≡ true
 decision_plain (Judged ask at verdict) = refl
@@ -90,9 +89,7 @@ decision_plain (Ended code answer) = refl
 
 signal_plain : (s : Signal) → is_plain (slaves.signal_said s) ≡ true
 signal_plain (signals.Grant k seconds) = refl
-signal_plain (signals.Denial k) = refl
-signal_plain (signals.Cancel code) = refl
-signal_plain (signals.Ack code) = refl
+signal_plain s = refl
 
 gm_heard_says : (ip : ℕ) (g : Grandmaster) (t from : ℕ) (heard : Result gm_heard.Heard GmReason) → Says ip t (gm.heard_deed g t from heard)
 gm_heard_says ip g t from (Err reason) = Quiet refl refl
@@ -107,11 +104,8 @@ capacity_says ip g t capacity = Quiet (plain_each gm.shed_said (shed_grants g.pa
 
 slave_heard_says : (ip t : ℕ) (s : Slave) (deed : slave.Deed) (heard : slave_heard.Heard) → s.ip ≡ ip → Says ip t (slaves.heard_deed s t deed heard)
 slave_heard_says ip t s deed (slave_heards.Ignored reason) at = Quiet refl refl
-slave_heard_says ip t s deed (slave_heards.Announce x m class) at = Selecting (slaves.entered s deed) at refl refl refl
-slave_heard_says ip t s deed (slave_heards.Sync x m number) at = Selecting (slaves.entered s deed) at refl refl refl
-slave_heard_says ip t s deed (slave_heards.FollowUp x m) at = Selecting (slaves.entered s deed) at refl refl refl
-slave_heard_says ip t s deed (slave_heards.DelayResp x m number) at = Selecting (slaves.entered s deed) at refl refl refl
 slave_heard_says ip t s deed (slave_heards.Signals x m list reply) at = Selecting (slaves.entered s deed) at (plain_each slaves.signal_said list signal_plain) refl refl
+slave_heard_says ip t s deed heard at = Selecting (slaves.entered s deed) at refl refl refl
 
 datagram_says : (ip t from : ℕ) (octets : List ℕ) (node : Node) → StandsAt ip node → Says ip t (datagram_deed node t from octets)
 datagram_says ip t from octets (IsGrandmaster g) at = gm_heard_says ip g t from (heard_in g.config octets)
@@ -272,12 +266,9 @@ plain_selects v ip t s e at = says_selects v ip t (slaves.plain_deed s t e) (sla
 
 heard_selects : (v : World) (ip t : ℕ) (s : Slave) (deed : slave.Deed) (heard : slave_heard.Heard) → s.ip ≡ ip → is_event heard ≡ true → selects v ip (slaves.heard_deed s t deed heard)
 heard_selects v ip t s deed (slave_heards.Ignored reason) at e = absurd cc
-heard_selects v ip t s deed (slave_heards.Announce x m class) at e = says_selects v ip t (slaves.heard_deed s t deed (slave_heards.Announce x m class)) (slaves.entered s deed) at refl refl
-heard_selects v ip t s deed (slave_heards.Sync x m number) at e = says_selects v ip t (slaves.heard_deed s t deed (slave_heards.Sync x m number)) (slaves.entered s deed) at refl refl
-heard_selects v ip t s deed (slave_heards.FollowUp x m) at e = says_selects v ip t (slaves.heard_deed s t deed (slave_heards.FollowUp x m)) (slaves.entered s deed) at refl refl
-heard_selects v ip t s deed (slave_heards.DelayResp x m number) at e = says_selects v ip t (slaves.heard_deed s t deed (slave_heards.DelayResp x m number)) (slaves.entered s deed) at refl refl
 heard_selects v ip t s deed (slave_heards.Signals x m list reply) at e =
     says_selects v ip t (slaves.heard_deed s t deed (slave_heards.Signals x m list reply)) (slaves.entered s deed) at (plain_each slaves.signal_said list signal_plain) refl
+heard_selects v ip t s deed heard at e = says_selects v ip t (slaves.heard_deed s t deed heard) (slaves.entered s deed) at refl refl
 
 module _ (w : World) (all : AllStand w.nodes) where
   abbrev Names : ℕ → Done → Type 0
@@ -296,14 +287,7 @@ module _ (w : World) (all : AllStand w.nodes) where
       (λ stock _. plain_selects (record w { stock = stock }) a t s (slave_events.ReplaceJudge m (Some rule)) (found_slave w.nodes all a s f))))))
   event_selects (commands.Event t a acts.Stop) ip e = subst (λ x. IfOk (step w (commands.Event t a acts.Stop)) (Names x)) (let same : a ≡ ip = cc in same)
       (told (Names a) w t a acts.Stop (ok_bound (Names a) (slave_at w a) (λ s. Ok (done_by w a (slaves.plain_deed s t slave_events.Stop))) (λ s f. plain_selects w a t s slave_events.Stop (found_slave w.nodes all a s f))))
-  event_selects (commands.Grandmaster setup) ip e = absurd cc
-  event_selects (commands.Slave setup) ip e = absurd cc
-  event_selects (commands.Master slave a priority rule) ip e = absurd cc
-  event_selects (commands.Event t a (acts.Receive from octets)) ip e = absurd cc
-  event_selects (commands.Deliver t number) ip e = absurd cc
-  event_selects (commands.Event t a (acts.Turn table)) ip e = absurd cc
-  event_selects (commands.Event t a (acts.Class class)) ip e = absurd cc
-  event_selects (commands.Event t a (acts.Capacity capacity)) ip e = absurd cc
+  event_selects command ip e = absurd cc
 
   pub event_names : (command : Command) (done : Done) (ip : ℕ) → slave_of command ≡ Some ip → step w command ≡ Ok done → NamesSelection ip done.said
   event_names command done ip of e = subst (λ r. IfOk r (Names ip)) e (event_selects command ip of)

@@ -10,7 +10,7 @@ use Rattle.ptu_outside.specs.Departure.{Departure}
 use Rattle.ptu_history.specs.Core.{core_moment}
 use Rattle.ptu_history.specs.Events as events
 use Rattle.ptu_history.specs.{Events.{Answer}, History.{Record}, Live.{Grant}}
-use Rattle.ptu_history.specs.{Turns.{due_grants, message_of}, Verdict.{Config, Verdict, GrantedFor, ShortOf, Outside, verdict}}
+use Rattle.ptu_history.specs.{Turns.{due_grants, message_of}, Verdict.{Config, Verdict, GrantedFor, verdict}}
 use Rattle.ptu_profile.specs.declared.grandmaster.GmConfig.{GmConfig}
 use Rattle.ptu_shard.specs.{Answered.{responses}, Messages.{departure_of, response_of}}
 use Rattle.ptu_gm_messages.specs.declared.item.Item.{Item}
@@ -39,14 +39,12 @@ signalings sends = filter is_signaling sends
 delay_signals : (config : GmConfig) (x : ℕ) (c : Client) (header : Header) (answer : Answer) → signalings (responses answer (response_of config x c header)) ≡ []
 unfolding octets_sent
 delay_signals config x c header events.Answered = refl
-delay_signals config x c header events.NoGrant = refl
-delay_signals config x c header (events.TooSoon earliest) = refl
+delay_signals config x c header answer = refl
 
 turned_signals : (config : GmConfig) (x : ℕ) (c : Client) (k : Kind) (n : ℕ) → k ≢ kinds.DelayResp → is_signaling (departure_of config x (record { client = c; kind = k; sequence = n })) ≡ false
 unfolding octets_sent
-turned_signals config x c kinds.Announce n differ = refl
-turned_signals config x c kinds.Sync n differ = refl
 turned_signals config x c kinds.DelayResp n differ = absurd (differ refl)
+turned_signals config x c k n differ = refl
 
 due_signals : (config : GmConfig) (past : List Record) (x : ℕ) (due : List Grant) → All IsTurned due → signalings (map (λ g. departure_of config x (message_of past g)) due) ≡ []
 due_signals config past x [] turned = refl
@@ -67,8 +65,7 @@ answer_fits opened h x c (items.Request ask) = by (verdict opened h x c (asked_b
   where
     by : (v : Verdict) → AnswersItem (items.Request ask) (answer_by ask v)
     by (GrantedFor k l seconds until) = (seconds, true, refl)
-    by (ShortOf k l others rate capacity) = (0, false, refl)
-    by (Outside cause) = (0, false, refl)
+    by v = (0, false, refl)
 answer_fits opened h x c (items.Cancel code) = refl
 
 answers_fit : (opened : Config) (t : ℕ) (c : Client) (h : List Record) (list : List Item) → AnswerEach list (map answer_to (decisions_of opened h t c list))

@@ -62,11 +62,7 @@ gm_heard_by ip t from g (Ok (Asks header items)) run = gone_on ip g _ run
 
 slave_heard_by : (ip t : ℕ) (s : Slave) (deed : slave.Deed) (heard : slave_heard.Heard) → s.ip ≡ ip → StandsAt ip (slaves.heard_deed s t deed heard).node
 slave_heard_by ip t s deed (slave_heards.Ignored reason) at = at
-slave_heard_by ip t s deed (slave_heards.Announce x m class) at = at
-slave_heard_by ip t s deed (slave_heards.Sync x m number) at = at
-slave_heard_by ip t s deed (slave_heards.FollowUp x m) at = at
-slave_heard_by ip t s deed (slave_heards.DelayResp x m number) at = at
-slave_heard_by ip t s deed (slave_heards.Signals x m list reply) at = at
+slave_heard_by ip t s deed heard at = at
 
 given : (ip t from : ℕ) (octets : List ℕ) (node : Node) → StandsAt ip node → StandsAt ip (datagram_deed node t from octets).node
 given ip t from octets (IsGrandmaster g) run = gm_heard_by ip t from g (heard_in g.config octets) run
@@ -112,17 +108,15 @@ module _ (nodes : Nodes) (all : AllStand nodes) where
   found_grandmaster ip g = by (node_at nodes ip) (all ip)
     where
       by : (o : Option Node) → IfSome o (StandsAt ip) → grandmaster_by o ≡ Ok g → IsRun ip g
-      by None s e = absurd cc
-      by (Some (IsSlave x)) s e = absurd cc
       by (Some (IsGrandmaster x)) s e = subst (λ y. IsRun ip y) (let same : x ≡ g = cc in same) s
+      by o s e = absurd cc
 
   pub found_slave : (ip : ℕ) (x : Slave) → slave_by (node_at nodes ip) ≡ Ok x → x.ip ≡ ip
   found_slave ip x = by (node_at nodes ip) (all ip)
     where
       by : (o : Option Node) → IfSome o (StandsAt ip) → slave_by o ≡ Ok x → x.ip ≡ ip
-      by None s e = absurd cc
-      by (Some (IsGrandmaster y)) s e = absurd cc
       by (Some (IsSlave y)) s e = subst (λ z. z.ip ≡ ip) (let same : y ≡ x = cc in same) s
+      by o s e = absurd cc
 
 -- ---- what is so of a world in which a node was set up
 

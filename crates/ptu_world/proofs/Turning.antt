@@ -97,11 +97,7 @@ module _ (j : ℕ) where
 
   slave_has : (t : ℕ) (s : Slave) (deed : slave.Deed) (heard : slave_heard.Heard) (turns : List ℕ) → HasTaken turns (Some (slaves.heard_deed s t deed heard).node)
   slave_has t s deed (slave_heards.Ignored reason) turns = tt
-  slave_has t s deed (slave_heards.Announce x m class) turns = tt
-  slave_has t s deed (slave_heards.Sync x m number) turns = tt
-  slave_has t s deed (slave_heards.FollowUp x m) turns = tt
-  slave_has t s deed (slave_heards.DelayResp x m number) turns = tt
-  slave_has t s deed (slave_heards.Signals x m list reply) turns = tt
+  slave_has t s deed heard turns = tt
 
   given : (t from : ℕ) (octets : List ℕ) (node : Node) (turns : List ℕ) → HasTaken turns (Some node) → HasTaken (turns ++ []) (Some (datagram_deed node t from octets).node)
   given t from octets (IsGrandmaster g) turns was = heard_has t from g (heard_in g.config octets) turns was
@@ -118,9 +114,8 @@ there_is cause None x e = absurd cc
 there_is cause (Some y) x e = ap Some (let same : y ≡ x = cc in same)
 
 master_is : (o : Option Node) (g : Grandmaster) → grandmaster_by o ≡ Ok g → o ≡ Some (IsGrandmaster g)
-master_is None g e = absurd cc
-master_is (Some (IsSlave s)) g e = absurd cc
 master_is (Some (IsGrandmaster x)) g e = ap (λ y. Some (IsGrandmaster y)) (let same : x ≡ g = cc in same)
+master_is o g e = absurd cc
 
 module _ (ip j : ℕ) (w : World) (turns : List ℕ) (was : HasTaken j turns (node_at w.nodes ip)) where
   abbrev Fine : World → Type 0

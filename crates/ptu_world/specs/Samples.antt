@@ -33,12 +33,19 @@ abbrev pub reply : List ℕ → List ℕ → List ℕ → List ℕ
 reply length sequence tlvs =
     codes "0c12" ++ (length ++ (codes "040004000000000000000000000000000a000000000000010001" ++ (sequence ++ (codes "057f0a000000000000110001" ++ tlvs))))
 
--- an ask for Announces at the logarithm 1 for 300 s, and its grant
+-- an ask for 300 s, and its grant, by the digits of the kind and the logarithm: `0000` for Syncs at 0, `9000` for Delay_Resps at 0
+abbrev pub ask_for : List ℕ → List ℕ
+ask_for messages = signaling_digits (codes "0036") (codes "0000") (codes "00040006" ++ (messages ++ codes "0000012c"))
+
+abbrev pub grant_for : List ℕ → List ℕ
+grant_for messages = reply (codes "0038") (codes "0000") (codes "00050008" ++ (messages ++ codes "0000012c0001"))
+
+-- for Announces at the logarithm 1
 abbrev pub ask_digits : List ℕ
-ask_digits = signaling_digits (codes "0036") (codes "0000") (codes "00040006b0010000012c")
+ask_digits = ask_for (codes "b001")
 
 abbrev pub grant_digits : List ℕ
-grant_digits = reply (codes "0038") (codes "0000") (codes "00050008b0010000012c0001")
+grant_digits = grant_for (codes "b001")
 
 abbrev pub denial : List ℕ
 denial = reply (codes "0038") (codes "0000") (codes "00050008b001000000000000")
@@ -74,22 +81,16 @@ ignored_datagram = lines_of (codes "2 ignored fault short 0" ∷ codes "end 2 0"
 
 -- ---- a grant and the turns of its table: one message at its edge, and none before
 
-abbrev pub sync_ask : List ℕ
-sync_ask = signaling_digits (codes "0036") (codes "0000") (codes "0004000600000000012c")
-
-abbrev pub sync_grant : List ℕ
-sync_grant = reply (codes "0038") (codes "0000") (codes "0005000800000000012c0001")
-
 abbrev pub turns_script : List ℕ
 turns_script = script_of (
-    gm_line (codes "16 300") ∷ rx (codes "0") sync_ask
+    gm_line (codes "16 300") ∷ rx (codes "0") (ask_for (codes "0000"))
     ∷ codes "turn 999999999 10.0.0.1 2" ∷ codes "turn 1000000000 10.0.0.1 2" ∷ codes "turn 11000000000 10.0.0.1 2"
     ∷ codes "turn 11999999999 10.0.0.1 2" ∷ [])
 
 abbrev pub messages_of_turns : List (List ℕ)
 messages_of_turns = lines_of (
     codes "2 granted sync 0 at 0 until 300000000000"
-    ∷ (codes "2 send 1 10.0.0.1 10.0.1.17 general " ++ sync_grant)
+    ∷ (codes "2 send 1 10.0.0.1 10.0.1.17 general " ++ grant_for (codes "0000"))
     ∷ (codes "4 send 2 10.0.0.1 10.0.1.17 event 0012002c040004000000000000000000000000000a000000000000010001" ++ codes "0000007f00000000000100000000")
     ∷ (codes "5 send 3 10.0.0.1 10.0.1.17 event 0012002c040004000000000000000000000000000a000000000000010001" ++ codes "0001007f00000000000b00000000")
     ∷ codes "end 6 3" ∷ [])
@@ -119,12 +120,6 @@ acknowledgements = lines_of (
 
 -- ---- Delay_Reqs: a credit of two
 
-abbrev pub delay_ask : List ℕ
-delay_ask = signaling_digits (codes "0036") (codes "0000") (codes "0004000690000000012c")
-
-abbrev pub delay_grant : List ℕ
-delay_grant = reply (codes "0038") (codes "0000") (codes "0005000890000000012c0001")
-
 abbrev pub delay_req_digits : List ℕ
 delay_req_digits = codes "0112002c040004000000000000000000000000000a0000000000001100010007017f00000000000000000000"
 
@@ -135,14 +130,14 @@ delay_resp_digits stamp =
 
 abbrev pub delay_reqs : List ℕ
 delay_reqs = script_of (
-    gm_line (codes "16 300") ∷ rx (codes "0") delay_req_digits ∷ rx (codes "0") delay_ask ∷ rx (codes "10000000000") delay_req_digits
+    gm_line (codes "16 300") ∷ rx (codes "0") delay_req_digits ∷ rx (codes "0") (ask_for (codes "9000")) ∷ rx (codes "10000000000") delay_req_digits
     ∷ rx (codes "10999999999") delay_req_digits ∷ rx (codes "10999999999") delay_req_digits ∷ [])
 
 abbrev pub delay_answers : List (List ℕ)
 delay_answers = lines_of (
     codes "2 silent nogrant at 0"
     ∷ codes "3 granted delay_resp 0 at 0 until 300000000000"
-    ∷ (codes "3 send 1 10.0.0.1 10.0.1.17 general " ++ delay_grant)
+    ∷ (codes "3 send 1 10.0.0.1 10.0.1.17 general " ++ grant_for (codes "9000"))
     ∷ codes "4 answered at 10000000000"
     ∷ (codes "4 send 2 10.0.0.1 10.0.1.17 general " ++ delay_resp_digits (codes "00000000000a00000000"))
     ∷ codes "5 answered at 10999999999"

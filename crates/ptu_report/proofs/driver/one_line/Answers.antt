@@ -1,5 +1,4 @@
-use Rattle.std.proofs.lemmas.Result.{err_from_is_err_and}
-use Rattle.std.specs.Prelude.{OnErr, Result, Ok, Err}
+use Rattle.std.proofs.lemmas.Result.{err_from_is_err_and, on_err_weaker}
 use Rattle.ptu_outside.proofs.Putting.{HasPutPart-none}
 use Rattle.ptu_report.proofs.OneLine.{line_in_part}
 use Rattle.ptu_report.proofs.driver.one_line.Goals as goal
@@ -14,17 +13,12 @@ returns-in_err-refused-in-Ok-None-clause-part g c =
     let p = err_from_is_err_and c.from_residual-in_err-refused-in-Ok-None.result c.from_residual-in_err-refused-in-Ok-None.ensures.1 in
     rw p.1 (λ m st left told. HasPutPart-none g.K.Sink.written g.K.Sink.handed c.args.sink.now _)
 
--- what holds after a failure, weakened
-on_err_weaker : {A E P Q : Type 0} (r : Result A E) → OnErr r P → (P → Q) → OnErr r Q
-on_err_weaker (Ok x) h then = tt
-on_err_weaker (Err e) h then = then h
-
 pub returns-in_ok-refused-in-Ok-Some-clause-part : goal.returns-in_ok-refused-in-Ok-Some-clause-part
 returns-in_ok-refused-in-Ok-Some-clause-part g c =
     let given = rw c.in-Ok-Some.field-0-is at c.in-Ok-Some.ensures.next in
-    on_err_weaker c.put_found.result c.put_found.ensures.part (λ part m st left told.
+    on_err_weaker c.put_found.result (λ part m st left told.
     let outcome = rw c.text.ensures at (c.in_ok-refused-in-Ok-Some.ensures m st) in
-    line_in_part g.K.Sink.written g.K.Sink.handed g.R.Reporter.rules (g.R.Reporter.stands_for c.take.new.self) m c.args.reader.now c.next.new.self (g.S.Source.left c.args.source.now) (g.S.Source.left c.next.new.source) left told c.in-Ok-Some.number c.args.sink.now c.put_found.new.sink c.take.new.texts c.in_ok-refused-in-Ok-Some.refused given outcome part)
+    line_in_part g.K.Sink.written g.K.Sink.handed g.R.Reporter.rules (g.R.Reporter.stands_for c.take.new.self) m c.args.reader.now c.next.new.self (g.S.Source.left c.args.source.now) (g.S.Source.left c.next.new.source) left told c.in-Ok-Some.number c.args.sink.now c.put_found.new.sink c.take.new.texts c.in_ok-refused-in-Ok-Some.refused given outcome part) c.put_found.ensures.part
 
 pub returns-in-Err-Read-clause-part : goal.returns-in-Err-Read-clause-part
 returns-in-Err-Read-clause-part g c =

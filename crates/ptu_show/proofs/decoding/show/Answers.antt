@@ -1,6 +1,6 @@
 use Rattle.ptu_report.proofs.Answered.{ends_written, has_written}
 use Rattle.ptu_show.specs.Shown.{HasShowCause, show_rules}
-use Rattle.ptu_show.proofs.ShowCauses.{shown_ending-causes}
+use Rattle.ptu_show.proofs.Causes.{shown_ending-causes}
 use Rattle.ptu_show.proofs.decoding.show.Goals as goal
 
 pub returns-clause-whole : goal.returns-clause-whole

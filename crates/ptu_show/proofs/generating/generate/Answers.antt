@@ -1,9 +1,8 @@
-use Rattle.std.proofs.Common.{◌∷◌, ◌++◌, [], ◌*◌, ◌≡◌}
-use Rattle.std.specs.Io.KnownBytes.{append_known}
+use Rattle.std.proofs.{Common.{◌∷◌, ◌++◌, [], ◌*◌}, lemmas.Result.{on_ok_weaker}}
 use Rattle.ptu_outside.specs.Handing.{HasPut, HasPutPart}
 use Rattle.ptu_outside.proofs.Putting.{HasPut-append, HasPut-part, HasPutPart-append, HasPutPart-whole}
 use Rattle.ptu_show.specs.Generated.{ask_lines, generated, generated_lines, grandmaster_text, turn_lines}
-use Rattle.ptu_show.proofs.Writing.{ok_or_err, on_ok}
+use Rattle.ptu_show.proofs.Writing.{ok_or_err}
 use Rattle.ptu_show.proofs.generating.generate.Goals as goal
 
 pub returns-in_err-put_line-clause-front : goal.returns-in_err-put_line-clause-front
@@ -24,16 +23,15 @@ returns-clause-whole g c =
     let n = c.args.number in
     let first = HasPut-append W H c.args.sink.now c.put_line.new.sink c.put_clients.new.sink (grandmaster_text (16 * n) ∷ []) (ask_lines n)
     c.in_ok-put_line.ensures.whole c.in_ok-put_clients.ensures.whole in
-    on_ok (HasPut W H c.put_clients.new.sink c.put_turns.new.sink (turn_lines 8)) (HasPut W H c.args.sink.now c.put_turns.new.sink (generated_lines n)) c.put_turns.result
+    on_ok_weaker c.put_turns.result
     (HasPut-append W H c.args.sink.now c.put_clients.new.sink c.put_turns.new.sink (grandmaster_text (16 * n) ∷ ask_lines n) (turn_lines 8) first)
     c.put_turns.ensures.whole
 
 pub returns-clause-written : goal.returns-clause-written
 unfolding generated
 returns-clause-written g c =
-    on_ok (HasPut g.K.Sink.written g.K.Sink.handed c.args.sink.now c.put_turns.new.sink (generated_lines c.args.number))
-    (g.K.Sink.written c.put_turns.new.sink ≡ append_known (g.K.Sink.written c.args.sink.now) (generated c.args.number)) c.put_turns.result
-    (λ put. put.written_is) (returns-clause-whole g c)
+    on_ok_weaker c.put_turns.result
+    (λ (put : HasPut g.K.Sink.written g.K.Sink.handed c.args.sink.now c.put_turns.new.sink (generated_lines c.args.number)). put.written_is) (returns-clause-whole g c)
 
 pub returns-clause-front : goal.returns-clause-front
 returns-clause-front g c =

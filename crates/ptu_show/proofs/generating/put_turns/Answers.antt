@@ -1,48 +1,23 @@
-use Rattle.std.proofs.Common.{◌≡◌, ◌∙◌, ◌+◌, ◌-◌, ◌<◌, ◌≤◌, ◌∷◌, [], sym, subst, refl, arith}
-use Rattle.std.specs.List.{flat_map}
-use Rattle.std.proofs.lemmas.{List.{append-nil}, List.Concat.{flat_map-append}}
+use Rattle.std.proofs.Common.{◌≡◌, ◌∙◌, ap, arith, map, subst, sym}
+use Rattle.std.specs.List.{range_with_len}
 use Rattle.std.proofs.lemmas.Result.{err_from_is_err_and}
 use Rattle.ptu_outside.specs.Handing.{HasPut, HasPutPart}
-use Rattle.ptu_outside.proofs.Putting.{HasPut-none}
-use Rattle.ptu_show.specs.Generated.{turn_lines, turn_lines_at}
-use Rattle.ptu_show.proofs.Writing.{wrote_more, wrote_part}
+use Rattle.ptu_show.proofs.Writing.{turn_numbered, turns_are, wrote_more, wrote_part}
 use Rattle.ptu_show.proofs.generating.put_turns.Goals as goal
 
-pub loop-second-init : goal.loop-second-init
-unfolding turn_lines
-loop-second-init g c = record { put = HasPut-none g.K.Sink.written g.K.Sink.handed c.args.sink.now; still = refl }
+pub loop-turn-preserved : goal.loop-turn-preserved
+loop-turn-preserved g c = record {
+  put = wrote_more g.K.Sink.written g.K.Sink.handed turn_numbered c.args.sink.now c.loop-turn.sink c.put_line.new.sink c.loop-turn.turn c.loop-turn.invariant.put c.in_ok-put_line.ensures.whole;
+  still = c.in_ok-put_line.ensures.counts ∙ c.loop-turn.invariant.still;
+}
 
-pub loop-second-preserved : goal.loop-second-preserved
-unfolding turn_lines
-loop-second-preserved g c =
-    let W = g.K.Sink.written in
-    let H = g.K.Sink.handed in
-    let k = c.loop-second.second in
-    let low : 1 ≤ k = c.loop-second.auto.second in
-    let next : k + 1 - 1 ≡ k - 1 + 1 = omega (arith, low) in
-    let one : turn_lines_at k ≡ flat_map turn_lines_at (k ∷ []) = sym (append-nil (turn_lines_at k)) in
-    record {
-      put = subst (λ n. HasPut W H c.args.sink.now c.put_turns_at.new.sink (turn_lines n)) (sym next)
-          (wrote_more W H (flat_map turn_lines_at) (flat_map-append turn_lines_at) c.args.sink.now c.loop-second.sink c.put_turns_at.new.sink 1 (k - 1) k (omega (arith, low))
-          c.loop-second.invariant.put (subst (HasPut W H c.loop-second.sink c.put_turns_at.new.sink) one c.in_ok-put_turns_at.ensures.whole));
-      still = c.in_ok-put_turns_at.ensures.counts ∙ c.loop-second.invariant.still;
-    }
-
-pub returns-in_err-put_turns_at-clause-part : goal.returns-in_err-put_turns_at-clause-part
-unfolding turn_lines
-returns-in_err-put_turns_at-clause-part g c =
-    let W = g.K.Sink.written in
-    let H = g.K.Sink.handed in
-    let k = c.loop-second.second in
-    let low : 1 ≤ k = c.loop-second.auto.second in
-    let below : k < 9 = c.loop-second-test.true in
+pub returns-in_err-put_line-clause-part : goal.returns-in_err-put_line-clause-part
+returns-in_err-put_line-clause-part g c =
     let p = err_from_is_err_and c.from_residual.result c.from_residual.ensures.1 in
-    let one : turn_lines_at k ≡ flat_map turn_lines_at (k ∷ []) = sym (append-nil (turn_lines_at k)) in
-    rw p.1 (wrote_part W H (flat_map turn_lines_at) (flat_map-append turn_lines_at) c.args.sink.now c.loop-second.sink c.put_turns_at.new.sink 1 8 (k - 1) k (omega (arith, low))
-    (omega (arith, low, below)) c.loop-second.invariant.put
-    (subst (HasPutPart W H c.loop-second.sink c.put_turns_at.new.sink) one c.in_err-put_turns_at.ensures.part))
+    rw p.1 (subst (HasPutPart g.K.Sink.written g.K.Sink.handed c.args.sink.now c.put_line.new.sink) turns_are
+    (wrote_part g.K.Sink.written g.K.Sink.handed turn_numbered c.args.sink.now c.loop-turn.sink c.put_line.new.sink 32 c.loop-turn.turn c.loop-turn-test.true c.loop-turn.invariant.put c.in_err-put_line.ensures.part))
 
 pub returns-clause-whole : goal.returns-clause-whole
 returns-clause-whole g c =
-    let last : c.loop-second.second - 1 ≡ 8 = omega (arith, c.loop-second.auto, c.loop-second-test.false) in
-    subst (λ n. HasPut g.K.Sink.written g.K.Sink.handed c.args.sink.now c.loop-second.sink (turn_lines n)) last c.loop-second.invariant.put
+    let last : c.loop-turn.turn ≡ 32 = omega (arith, c.loop-turn.auto.turn-end, c.loop-turn-test.false) in
+    subst (HasPut g.K.Sink.written g.K.Sink.handed c.args.sink.now c.loop-turn.sink) (ap (λ n. map turn_numbered (range_with_len 0 n)) last ∙ turns_are) c.loop-turn.invariant.put

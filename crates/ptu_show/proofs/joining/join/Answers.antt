@@ -1,7 +1,7 @@
 use Rattle.std.proofs.Common.{[]}
 use Rattle.ptu_report.proofs.Answered.{ends_written, has_written}
 use Rattle.ptu_show.specs.Joined.{HasJoinCause, join_rules}
-use Rattle.ptu_show.proofs.JoinCauses.{joined_ending-causes}
+use Rattle.ptu_show.proofs.Causes.{joined_ending-causes}
 use Rattle.ptu_show.proofs.joining.join.Goals as goal
 
 pub returns-clause-whole : goal.returns-clause-whole

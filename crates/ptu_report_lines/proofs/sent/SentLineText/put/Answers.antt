@@ -1,13 +1,9 @@
-use Rattle.std.proofs.Common.{rules, codes, ◌≡◌, ◌++◌, ◌∷◌, [], ℕ, List, Result, Ok, Err, OnOk, ap, ◌∙◌, append_assoc}
+use Rattle.std.proofs.{Common.{rules, codes, ◌≡◌, ◌++◌, ◌∷◌, [], ℕ, List, ap, ◌∙◌, append_assoc}, lemmas.Result.{on_ok_weaker}}
 use Rattle.std.specs.Fmt.{decimal}
 use Rattle.hex.specs.Hex.{encode_lower}
 use Rattle.ptu_lines.specs.Texts.{address_text}
 use Rattle.ptu_report_lines.specs.Statements.{channel_text, words_text}
 use Rattle.ptu_report_lines.proofs.sent.SentLineText.put.Goals as goal
-
-on_ok : {A E P Q : Type 0} (put : Result A E) → (P → Q) → OnOk put P → OnOk put Q
-on_ok (Ok x) goes_on h = goes_on h
-on_ok (Err e) goes_on h = tt
 
 joined : (old n d f t c h : List ℕ) → ((old ++ (n ++ (codes " send " ++ (d ++ (codes " " ++ (f ++ (codes " " ++ (t ++ (codes " " ++ (c ++ codes " ")))))))))) ++ h) ++ codes "\n"
     ≡ old ++ (words_text (n ∷ words_text (codes "send" ∷ d ∷ f ∷ t ∷ c ∷ h ∷ []) ∷ []) ++ codes "\n")
@@ -23,6 +19,6 @@ returns-clause-put c =
     c.in_ok-put_digits.ensures.put
     ∙ ap (λ (octets : List ℕ). c.put_line.new.self.text ++ encode_lower octets) c.octets.ensures
     ∙ ap (λ (t : List ℕ). t ++ encode_lower sent.octets) head in
-    on_ok c.put_octets.result (λ end.
+    on_ok_weaker c.put_octets.result (λ end.
     end ∙ ap (λ (t : List ℕ). t ++ codes "\n") digits
     ∙ joined old (decimal line.number) (decimal line.datagram) (address_text sent.from) (address_text sent.to) (channel_text sent.channel) (encode_lower sent.octets)) c.put_octets.ensures.put
