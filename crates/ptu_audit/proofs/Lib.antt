@@ -9,3 +9,4 @@ mod Counts
 mod Answering
 mod Exact
 mod Refusing
+mod OnLiterals
