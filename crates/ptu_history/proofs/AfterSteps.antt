@@ -184,9 +184,8 @@ unfolding delay_answer
 answer_records-is history x c = at (lawful history x c DelayResp) (live history x c DelayResp)
   where
     at : (a b : Bool) → answer_records x c (cond a Answered (cond b (TooSoon (earliest history c DelayResp)) NoGrant)) ≡ cond a (Sent x c DelayResp ∷ []) []
-    at true b = refl
     at false true = refl
-    at false false = refl
+    at _ _ = refl
 
 answered_as : (x : ℕ) (c : Client) (b : Bool) → cond b (Sent x c DelayResp ∷ []) [] ≡ map (sent_record x) (answered_grants c b)
 unfolding answered_grants asked_grant

@@ -126,11 +126,6 @@ shed_cmp-total =
 -- the derived order of kinds
 pub kind_cmp_is : (j k : Kind) → kinds.cmp-value.it j k ≡ kind_cmp j k
 kind_cmp_is Announce Announce = refl
-kind_cmp_is Announce Sync = refl
-kind_cmp_is Announce DelayResp = refl
 kind_cmp_is Sync Announce = refl
-kind_cmp_is Sync Sync = refl
-kind_cmp_is Sync DelayResp = refl
 kind_cmp_is DelayResp Announce = refl
-kind_cmp_is DelayResp Sync = refl
-kind_cmp_is DelayResp DelayResp = refl
+kind_cmp_is _ _ = refl

@@ -76,8 +76,7 @@ pub below_from : (a b : Ordering) → a ≡ ordering_reverse b → is_lt b ≡ f
 below_from Less b e f differ = refl
 below_from Equal b e f differ = absurd (differ refl)
 below_from Greater Less e f differ = absurd (true≢false f)
-below_from Greater Equal e f differ = absurd (cc)
-below_from Greater Greater e f differ = absurd (cc)
+below_from Greater b e f differ = absurd (cc)
 
 pub Rises-from_sorted : {A : Type 0} (cmp : A → A → Ordering) → IsTotalOrder cmp → (R : A → A → Type 0) → ((x y : A) → R x y → cmp x y ≡ Equal → ⊥) → (xs : List A) → IsSorted cmp xs → Apart R xs → Rises cmp xs
 Rises-from_sorted cmp total R differ [] up apart = tt
@@ -98,8 +97,7 @@ Rises-from_sorted {A} cmp total R differ (x ∷ xs) up apart = (
 
 clash : (a b : Ordering) → a ≡ ordering_reverse b → b ≡ Less → a ≡ Less → ⊥
 clash a Less e f g = cc
-clash a Equal e f g = cc
-clash a Greater e f g = cc
+clash a _ e f g = cc
 
 not_itself : (a : Ordering) → a ≡ Equal → a ≡ Less → ⊥
 not_itself a e f = cc

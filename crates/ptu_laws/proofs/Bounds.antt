@@ -7,7 +7,7 @@ use Rattle.std.proofs.lemmas.List.Elements.{All-append, All-cons, All-filter, Al
 use Rattle.std.proofs.lemmas.List.Sums.{sum_by-cons}
 use Rattle.ptu_units.specs.declared.kind.Kind.{Kind}
 use Rattle.ptu_units.specs.{declared.client.Client.{Client}, Client.{table_of}}
-use Rattle.ptu_history.specs.History.{Record, Granted, Short, Ended, Capacity, Shed, Looked, Sent, capacity_in_force, is_change, is_sent, moment_of}
+use Rattle.ptu_history.specs.History.{Record, Granted, Capacity, Sent, capacity_in_force, is_change, is_sent, moment_of}
 use Rattle.ptu_history.specs.Moments.{book_moment, book_part, greatest_by, table_moment, table_part}
 use Rattle.ptu_history.specs.{Live.{Grant}, Verdict.{Config}}
 use Rattle.ptu_history.specs.Events.{Event, Request, Cancel, Turn, DelayReq, Resize}
@@ -86,13 +86,8 @@ RecordUpTo most (Capacity x capacity) = capacity ≤ most
 RecordUpTo most _ = Unit {0}
 
 other_up_to : (most : ℕ) (r : Record) → is_change r ≡ false → RecordUpTo most r
-other_up_to most (Granted n c k l u) other = tt
-other_up_to most (Short n c) other = tt
-other_up_to most (Ended n c k) other = tt
 other_up_to most (Capacity n capacity) other = absurd (true≢false other)
-other_up_to most (Shed n c k) other = tt
-other_up_to most (Looked n j) other = tt
-other_up_to most (Sent n c k) other = tt
+other_up_to most _ other = tt
 
 others_up_to : (most : ℕ) (rs : List Record) → list_any is_change rs ≡ false → All (RecordUpTo most) rs
 others_up_to most [] none = All-nil (RecordUpTo most)
@@ -105,14 +100,11 @@ sheds_up_to most x [] = refl
 sheds_up_to most x (g ∷ gs) = sheds_up_to most x gs
 
 step_up_to : (config : Config) (most : ℕ) (before : List Record) (t : ℕ) (event : Event) → IsUpTo most event → All (RecordUpTo most) (core_step config before t event).records
-step_up_to config most before t (Request c ask) is = others_up_to most (core_step config before t (Request c ask)).records (step_unchanged config before t (Request c ask) refl)
-step_up_to config most before t (Cancel c k) is = others_up_to most (core_step config before t (Cancel c k)).records (step_unchanged config before t (Cancel c k) refl)
-step_up_to config most before t (Turn j) is = others_up_to most (core_step config before t (Turn j)).records (step_unchanged config before t (Turn j) refl)
-step_up_to config most before t (DelayReq c) is = others_up_to most (core_step config before t (DelayReq c)).records (step_unchanged config before t (DelayReq c) refl)
 step_up_to config most before t (Resize capacity) is =
     let x : ℕ = book_step_moment before t in
     All-cons (RecordUpTo most) (Capacity x capacity) (map (shed_record x) (shed_grants before x capacity)) is
     (others_up_to most (map (shed_record x) (shed_grants before x capacity)) (sheds_up_to most x (shed_grants before x capacity)))
+step_up_to config most before t event is = others_up_to most (core_step config before t event).records (step_unchanged config before t event refl)
 
 history_up_to : (config : Config) (events : List (ℕ × Event)) (most : ℕ) → All (λ e. IsUpTo most e.1) events → All (RecordUpTo most) (core_history config events)
 history_up_to config events most =

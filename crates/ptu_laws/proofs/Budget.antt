@@ -6,8 +6,8 @@ use Rattle.std.proofs.lemmas.List.{Elements.{All-head, All-tail}, Folds.{list_an
 use Rattle.std.proofs.lemmas.List.Sums.{sum_by-cons}
 use Rattle.ptu_units.specs.declared.client.Client.{Client}
 use Rattle.ptu_history.specs.{History.{Record, Granted, Sent, is_change, is_sent}, Live.{Grant}}
-use Rattle.ptu_history.specs.Verdict.{Config, Verdict, verdict, GrantedFor, ShortOf, Outside}
-use Rattle.ptu_history.specs.Events.{Event, Request, Cancel, Turn, DelayReq, Resize, Answer, Answered, NoGrant, TooSoon}
+use Rattle.ptu_history.specs.Verdict.{Config, Verdict, verdict, GrantedFor}
+use Rattle.ptu_history.specs.Events.{Event, Request, Cancel, Turn, DelayReq, Resize, Answer, Answered}
 use Rattle.ptu_history.specs.Turns.{due_grants, sent_record}
 use Rattle.ptu_history.specs.Step.{answer_records, delay_answer, verdict_records}
 use Rattle.ptu_history.specs.Core.{core_moment, core_step, core_history}
@@ -82,13 +82,11 @@ count-within config events = count-sound config.capacity (core_history config ev
 
 verdict_unchanged : (x : ℕ) (c : Client) (v : Verdict) → list_any is_change (verdict_records x c v) ≡ false
 verdict_unchanged x c (GrantedFor k l seconds until) = refl
-verdict_unchanged x c (ShortOf k l others rate capacity) = refl
-verdict_unchanged x c (Outside cause) = refl
+verdict_unchanged x c _ = refl
 
 answer_unchanged : (x : ℕ) (c : Client) (a : Answer) → list_any is_change (answer_records x c a) ≡ false
 answer_unchanged x c Answered = refl
-answer_unchanged x c NoGrant = refl
-answer_unchanged x c (TooSoon earliest) = refl
+answer_unchanged x c _ = refl
 
 pub step_unchanged : (config : Config) (before : List Record) (t : ℕ) (event : Event) → is_resize event ≡ false → list_any is_change (core_step config before t event).records ≡ false
 step_unchanged config before t (Request c ask) other = verdict_unchanged (core_moment before t (Request c ask)) c (verdict config before (core_moment before t (Request c ask)) c ask)

@@ -8,7 +8,7 @@ use Rattle.ptu_units.specs.declared.kind.{Kind.{Kind}, Kind.TheVariants.{DelayRe
 use Rattle.ptu_units.specs.declared.client.Client.{Client}
 use Rattle.ptu_units.specs.Client.{client_cmp, kind_cmp, same_lease, table_of}
 use Rattle.ptu_history.specs.Order.{in_order}
-use Rattle.ptu_history.specs.History.{Record, Granted, Short, Ended, Capacity, Shed, Looked, Sent, concerns, decides, is_decision, moment_of, lease_records}
+use Rattle.ptu_history.specs.History.{Record, Granted, Ended, Shed, Looked, Sent, concerns, decides, is_decision, moment_of, lease_records}
 use Rattle.ptu_history.specs.Moments.{book_moment, greatest_by, is_of_table, table_moment, table_part}
 use Rattle.ptu_history.specs.Live.{Grant, last_decision, live, live_grants, standing}
 use Rattle.ptu_history.specs.Runs.{chain, sent_in_chain, sequence_number}
@@ -29,12 +29,10 @@ own_client c d k j e = eq-eqb (table_of d) (table_of c) (ap table_of (sym (same_
 
 concerns-part : (c : Client) (k : Kind) (r : Record) → concerns c k r ≡ true → is_of_clients (table_of c) r ≡ true
 concerns-part c k (Granted n d j l u) own = own_client c d k j own
-concerns-part c k (Short n d) own = absurd (false≢true own)
 concerns-part c k (Ended n d j) own = own_client c d k j own
-concerns-part c k (Capacity n capacity) own = absurd (false≢true own)
 concerns-part c k (Shed n d j) own = own_client c d k j own
-concerns-part c k (Looked n i) own = absurd (false≢true own)
 concerns-part c k (Sent n d j) own = own_client c d k j own
+concerns-part c k _ own = absurd (false≢true own)
 
 lease_records-part : (history : List Record) (c : Client) (k : Kind) → lease_records (part_of_clients (table_of c) history) c k ≡ lease_records history c k
 unfolding lease_records
@@ -98,12 +96,7 @@ standing-part j (Granted n c k l u ∷ history) = at (eqb (table_of c) j) refl (
         by_any : (b : Bool) → filter (is_on j) (cond b (standing history) (this ∷ standing history)) ≡ filter (is_on j) (standing history)
         by_any true = refl
         by_any false = ap (λ a. cond a (this ∷ filter (is_on j) (standing history)) (filter (is_on j) (standing history))) off
-standing-part j (Short n c ∷ history) = with_part j (Short n c) (part_of_clients j history) (standing history) (eqb (table_of c) j) refl (standing-part j history)
-standing-part j (Ended n c k ∷ history) = with_part j (Ended n c k) (part_of_clients j history) (standing history) (eqb (table_of c) j) refl (standing-part j history)
-standing-part j (Capacity n capacity ∷ history) = standing-part j history
-standing-part j (Shed n c k ∷ history) = with_part j (Shed n c k) (part_of_clients j history) (standing history) (eqb (table_of c) j) refl (standing-part j history)
-standing-part j (Looked n i ∷ history) = standing-part j history
-standing-part j (Sent n c k ∷ history) = with_part j (Sent n c k) (part_of_clients j history) (standing history) (eqb (table_of c) j) refl (standing-part j history)
+standing-part j (r ∷ history) = with_part j r (part_of_clients j history) (standing history) (is_of_clients j r) refl (standing-part j history)
 
 -- the test is of the table's own grants
 abbrev IsOn : ℕ → Grant → Type 0
@@ -197,13 +190,8 @@ pub delay-same : (config : Config) (a b : List Record) (x : ℕ) (c : Client) �
 delay-same config a b x c same = sym (delay-part config a x c) ∙ ap (λ h. step config h x (DelayReq c)) same ∙ delay-part config b x c
 
 clients_of_table : (j : ℕ) (r : Record) → is_of_clients j r ≡ true → is_of_table j r ≡ true
-clients_of_table j (Granted n c k l u) e = e
-clients_of_table j (Short n c) e = e
-clients_of_table j (Ended n c k) e = e
-clients_of_table j (Capacity n capacity) e = e
-clients_of_table j (Shed n c k) e = e
 clients_of_table j (Looked n i) e = absurd (false≢true e)
-clients_of_table j (Sent n c k) e = e
+clients_of_table j _ e = e
 
 clients_same : (a b : List Record) (j : ℕ) → part_of_table j a ≡ part_of_table j b → part_of_clients j a ≡ part_of_clients j b
 clients_same a b j same =

@@ -30,8 +30,7 @@ end_cmp_is a b = ap (λ o. ordering_then (nat_cmp a.until b.until) (ordering_the
 
 then_same : (o p : Ordering) → is_eq (ordering_then o p) ≡ (is_eq o && is_eq p)
 then_same Less p = refl
-then_same Equal p = refl
-then_same Greater p = refl
+then_same _ p = refl
 
 and_assoc : (p q r : Bool) → (p && (q && r)) ≡ ((p && q) && r)
 and_assoc true q r = refl
