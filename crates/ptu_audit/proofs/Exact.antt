@@ -1,18 +1,13 @@
 -- Where each group is as it must be and no trail has a fault, nothing is found.
-use Rattle.std.proofs.Common.{◌≡◌, ◌∙◌, ℕ, ◌++◌, eqb, cond, false, List, [], ◌∷◌, map, Option, Some, None, option_map, refl, sym, ap, subst, append_assoc}
+use Rattle.std.proofs.Common.{◌≡◌, ◌∙◌, ℕ, ◌++◌, List, [], ◌∷◌, Option, Some, None, option_map, refl, sym, ap, subst, append_assoc}
 use Rattle.std.specs.{Prelude.{IsSome}, List.{AllByRecursion, filter, fold}, Option.{unwrap_or}}
 use Rattle.std.proofs.lemmas.{List.{append-nil}, List.Elements.{filter-append}}
 use Rattle.std.proofs.lemmas.List.{Concat.{flat_map-append}, Sums.{fold-append}}
-use Rattle.std.proofs.lemmas.Bool.{true≢false}
-use Rattle.ptu_history.specs.History as history
 use Rattle.ptu_history.specs.History.{Record}
-use Rattle.ptu_history.specs.Counts.{is_shedding}
-use Rattle.ptu_laws.specs.Sound.{sheds_at}
-use Rattle.ptu_trail.specs.declared.cause.{Fault.{Fault}, NoCause.{NoCause}, Shedding.{Shedding}}
-use Rattle.ptu_trail.specs.Faults.{behind, fault_of, first_fault, message_to, or_behind, record_of}
-use Rattle.ptu_trail.proofs.Faultless.{IsNoShedding, behind-none, none-both, or_behind-none}
+use Rattle.ptu_trail.specs.Faults.{fault_of, first_fault}
+use Rattle.ptu_trail.proofs.Faultless.{IsNoShedding, fault-same, none-both, or_behind-none}
 use Rattle.ptu_audit.specs.declared.{line.Line.{Line}, deed.Act.{Act}, deed.Deed.{Deed}}
-use Rattle.ptu_audit.specs.declared.deed.Deed.TheVariants.{Granted, Ended, Changed, Sent}
+use Rattle.ptu_audit.specs.declared.deed.Deed.TheVariants.{Changed}
 use Rattle.ptu_audit.specs.Groups.{acts_of}
 use Rattle.ptu_audit.specs.Trails.{AreSound, act_finding, acts_finding, acts_in, finding_of, first_line, group_finding, groups_finding, is_act_by, or_later_finding, records_of, told_finding, trail_of, trail_with}
 use Rattle.ptu_audit.proofs.Faultless.{AreFaultless, Laws, acts_in-more, faultless, none_both}
@@ -21,30 +16,14 @@ use Rattle.ptu_audit.proofs.Ledgers.{trail_own}
 -- ---- records behind those of an act
 
 no_shedding : (before : List Record) (deed : Deed) (more : List Record) → IsNoShedding (records_of before deed ++ more)
-no_shedding before (Granted at client kind log until) more = refl
-no_shedding before (Ended at client kind) more = refl
 no_shedding before (Changed at capacity shed) more = refl
-no_shedding before (Sent stamp ip kind) more = refl
+no_shedding before _ more = refl
 
 later : (trail : List Record) (acts : List Act) → (more : List Record) × (fold trail_with trail acts ≡ trail ++ more) × IsNoShedding more
 later trail [] = ([], sym (append-nil trail), tt)
 later trail (act ∷ acts) =
     let rest = later (trail_with trail act) acts in
     (records_of trail act.deed ++ rest.0, rest.1 ∙ append_assoc trail (records_of trail act.deed) rest.0, no_shedding trail act.deed rest.0)
-
-none_shed : (x : ℕ) (more : List Record) → IsNoShedding more → sheds_at x more ≡ []
-none_shed x [] other = refl
-none_shed x (history.Granted n c k l u ∷ more) other = refl
-none_shed x (history.Short n c ∷ more) other = refl
-none_shed x (history.Ended n c k ∷ more) other = refl
-none_shed x (history.Capacity n capacity ∷ more) other = refl
-none_shed x (history.Shed n c k ∷ more) other = absurd (true≢false other)
-none_shed x (history.Looked n j ∷ more) other = refl
-none_shed x (history.Sent n c k ∷ more) other = refl
-
-own_shed : (x : ℕ) (shed : List Shedding) (more : List Record) → IsNoShedding more → sheds_at x (map (record_of x) shed ++ more) ≡ sheds_at x (map (record_of x) shed)
-own_shed x [] more other = none_shed x more other
-own_shed x (s ∷ shed) more other = ap (λ rs. cond (eqb x x) (record_of x s ∷ rs) []) (own_shed x shed more other)
 
 -- ---- the first fault of a part
 
@@ -55,25 +34,13 @@ module _ (opening : ℕ) where
       ap (λ h. first_fault opening h rest) (sym (append_assoc before (r ∷ []) front))
       ∙ behind_front (before ++ r ∷ []) front rest (or_behind-none (fault_of opening before r (front ++ rest)) (first_fault opening (before ++ r ∷ []) (front ++ rest)) e).1
 
-  sheds_front : (before : List Record) (x : ℕ) (shed : List Shedding) (more : List Record) → first_fault opening before (map (record_of x) shed ++ more) ≡ None → first_fault opening before (map (record_of x) shed) ≡ None
-  sheds_front before x [] more e = refl
-  sheds_front before x (s ∷ shed) more e =
-      let parts = or_behind-none (fault_of opening before (record_of x s) []) (first_fault opening (before ++ record_of x s ∷ []) (map (record_of x) shed ++ more)) e in
-      none-both (fault_of opening before (record_of x s) []) (first_fault opening (before ++ record_of x s ∷ []) (map (record_of x) shed)) parts.0 (sheds_front (before ++ record_of x s ∷ []) x shed more parts.1)
-
-  one_front : (before : List Record) (r : Record) (more : List Record) → fault_of opening before r more ≡ fault_of opening before r [] → first_fault opening before (r ∷ more) ≡ None → first_fault opening before (r ∷ []) ≡ None
-  one_front before r more same e = none-both (fault_of opening before r []) None (sym same ∙ (or_behind-none (fault_of opening before r more) (first_fault opening (before ++ r ∷ []) more) e).0) refl
-
-  deed_front : (before : List Record) (deed : Deed) (more : List Record) → IsNoShedding more → first_fault opening before (records_of before deed ++ more) ≡ None → first_fault opening before (records_of before deed) ≡ None
-  deed_front before (Granted at client kind log until) more other e = one_front before (history.Granted at client kind log until) more refl e
-  deed_front before (Ended at client kind) more other e = one_front before (history.Ended at client kind) more refl e
-  deed_front before (Changed at n shed) more other e =
-      let c : Record = history.Capacity at n in
-      let sheds : List Record = map (record_of at) shed in
-      let parts = or_behind-none (fault_of opening before c (sheds ++ more)) (first_fault opening (before ++ c ∷ []) (sheds ++ more)) e in
-      let same : fault_of opening before c (sheds ++ more) ≡ fault_of opening before c sheds = rw (own_shed at shed more other) in
-      none-both (fault_of opening before c sheds) (first_fault opening (before ++ c ∷ []) sheds) (sym same ∙ parts.0) (sheds_front (before ++ c ∷ []) at shed more parts.1)
-  deed_front before (Sent stamp ip kind) more other e = one_front before (message_to before stamp ip kind) more refl e
+  -- a front has none where the whole has none, and no shedding follows it
+  front_none : (before front rest : List Record) → IsNoShedding rest → first_fault opening before (front ++ rest) ≡ None → first_fault opening before front ≡ None
+  front_none before [] rest other e = refl
+  front_none before (r ∷ front) rest other e =
+      let parts = or_behind-none (fault_of opening before r (front ++ rest)) (first_fault opening (before ++ r ∷ []) (front ++ rest)) e in
+      none-both (fault_of opening before r front) (first_fault opening (before ++ r ∷ []) front) (sym (fault-same opening before r front rest other) ∙ parts.0)
+      (front_none (before ++ r ∷ []) front rest other parts.1)
 
 -- ---- acts and groups
 
@@ -92,7 +59,7 @@ module _ (laws : Laws) (capacity : ℕ) where
       trail_rest g (before ++ act ∷ []) rest ∙ ap (λ t. fold trail_with t (filter (is_act_by g) rest)) (trail_own before act)
       ∙ more.1 ∙ append_assoc trail own more.0 in
       let none : first_fault capacity [] (trail ++ (own ++ more.0)) ≡ None = ap (first_fault capacity []) (sym whole) ∙ laws.first capacity (trail_of g ((before ++ act ∷ []) ++ rest)) (f g) in
-      ap (option_map (finding_of act)) (deed_front capacity trail act.deed more.0 more.2 (behind_front capacity [] trail (own ++ more.0) none))
+      ap (option_map (finding_of act)) (front_none capacity trail own more.0 more.2 (behind_front capacity [] trail (own ++ more.0) none))
 
   acts_none : (before acts rest : List Act) → AreFaultless capacity ((before ++ acts) ++ rest) → acts_finding capacity before acts ≡ None
   acts_none before [] rest f = refl

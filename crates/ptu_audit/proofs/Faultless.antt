@@ -6,8 +6,8 @@ use Rattle.ptu_history.specs.History.{Record}
 use Rattle.ptu_history.specs.History as history
 use Rattle.ptu_history.specs.Counts.{is_shedding}
 use Rattle.ptu_trail.specs.declared.cause.Shedding.{Shedding}
-use Rattle.ptu_trail.specs.Faults.{IsFaultless, fault_of, first_fault, message_to, or_behind, record_of}
-use Rattle.ptu_trail.specs.declared.cause.NoCause.{NoCause}
+use Rattle.ptu_trail.specs.Faults.{IsFaultless, fault_of, first_fault, message_to, record_of}
+use Rattle.ptu_trail.proofs.Faultless.{or_behind-none}
 use Rattle.ptu_audit.specs.declared.{line.Line.{Line}, deed.Act.{Act}, deed.Deed.{Deed}}
 use Rattle.ptu_audit.specs.declared.deed.Deed.TheVariants.{Granted, Ended, Changed, Sent}
 use Rattle.ptu_audit.specs.{declared.deed.Finding.{Finding}, Groups.{acts_of}}
@@ -22,10 +22,6 @@ none_mapped : {A B : Type 0} (f : A → B) (o : Option A) → option_map f o ≡
 none_mapped f None e = refl
 none_mapped f (Some x) e = absurd cc
 
-front_none : (here : Option NoCause) → or_behind here None ≡ None → here ≡ None
-front_none None e = refl
-front_none (Some cause) e = absurd cc
-
 -- the laws of trails without a fault, one record after the other
 pub record Laws : Type 0 where
   pub none : (opening : ℕ) → IsFaultless opening []
@@ -35,10 +31,10 @@ pub record Laws : Type 0 where
   pub first : (opening : ℕ) (trail : List Record) → IsFaultless opening trail → first_fault opening [] trail ≡ None
 
 more_records : (laws : Laws) (capacity : ℕ) (before : List Record) (deed : Deed) → IsFaultless capacity before → first_fault capacity before (records_of before deed) ≡ None → IsFaultless capacity (before ++ records_of before deed)
-more_records laws capacity before (Granted at client kind log until) f none = laws.one_more capacity before (history.Granted at client kind log until) f refl (front_none (fault_of capacity before (history.Granted at client kind log until) []) none)
-more_records laws capacity before (Ended at client kind) f none = laws.one_more capacity before (history.Ended at client kind) f refl (front_none (fault_of capacity before (history.Ended at client kind) []) none)
+more_records laws capacity before (Granted at client kind log until) f none = laws.one_more capacity before (history.Granted at client kind log until) f refl (or_behind-none (fault_of capacity before (history.Granted at client kind log until) []) None none).0
+more_records laws capacity before (Ended at client kind) f none = laws.one_more capacity before (history.Ended at client kind) f refl (or_behind-none (fault_of capacity before (history.Ended at client kind) []) None none).0
 more_records laws capacity before (Changed at n shed) f none = laws.change capacity before at n shed f none
-more_records laws capacity before (Sent stamp ip kind) f none = laws.one_more capacity before (message_to before stamp ip kind) f refl (front_none (fault_of capacity before (message_to before stamp ip kind) []) none)
+more_records laws capacity before (Sent stamp ip kind) f none = laws.one_more capacity before (message_to before stamp ip kind) f refl (or_behind-none (fault_of capacity before (message_to before stamp ip kind) []) None none).0
 
 -- the trail of each grandmaster has no fault
 abbrev pub AreFaultless : ℕ → List Act → Type 0

@@ -14,9 +14,8 @@ unfolding last_script
 last_script-push lines line = fold-append (λ (script : ℕ) (l : Line). l.script) 0 lines (line ∷ [])
 
 with_line-last : (judged : List (List Line)) (group : List Line) (line : Line) → with_line (judged ++ group ∷ []) line ≡ judged ++ with_line (group ∷ []) line
-with_line-last [] group line = refl
-with_line-last (g ∷ []) group line = refl
 with_line-last (g ∷ h ∷ judged) group line = ap (λ gs. g ∷ gs) (with_line-last (h ∷ judged) group line)
+with_line-last _ group line = refl
 
 -- the line joins the last group
 pub joins : (judged : List (List Line)) (group : List Line) (line : Line) → is_of_script group line.script ≡ true

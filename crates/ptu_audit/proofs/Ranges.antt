@@ -114,12 +114,7 @@ line_in_range line = search (numbered, first, each) depth 30 fits 4000
 
 sent_in_range : (from to : ℕ) (body : Body) → IsSaidInRange (said_of_body from to body)
 sent_in_range from to (bodies.Sync stamp) = tt
-sent_in_range from to (bodies.DelayReq stamp) = tt
-sent_in_range from to (bodies.FollowUp stamp) = tt
-sent_in_range from to (bodies.DelayResp stamp requester) = tt
-sent_in_range from to (bodies.Announce body) = tt
-sent_in_range from to (bodies.Signaling target list) = tt
-sent_in_range from to bodies.Ignored = tt
+sent_in_range from to _ = tt
 
 read_in_range : (from to : ℕ) (read : Result Message MessageFault) → IsSaidInRange (sent_as from to read)
 read_in_range from to (Ok message) = sent_in_range from to message.body
@@ -127,10 +122,8 @@ read_in_range from to (Err fault) = tt
 
 said_in_range : (e : Entry) → IsEntryInRange e → IsSaidInRange (said_by e)
 said_in_range (entries.Decided d) h = h
-said_in_range (entries.Capacity grandmaster capacity at) h = tt
-said_in_range (entries.Shed kind log client) h = tt
 said_in_range (entries.Send number from to octets) h = read_in_range from to (message_in octets)
-said_in_range entries.Other h = tt
+said_in_range _ h = tt
 
 -- what a line of a report says
 pub said_within : (text : List ℕ) (number : ℕ) (e : Entry) → line_of text ≡ Some (report.At number e) → IsSaidInRange (said_by e)

@@ -3,7 +3,7 @@ use Rattle.std.proofs.Common.{ℕ, List, Option, Err, sym, subst}
 use Rattle.ptu_lines.specs.Script.{script_lines}
 use Rattle.ptu_outside.specs.Handing.{HasPut}
 use Rattle.ptu_report.specs.declared.fault.RunFault.{RunFault}
-use Rattle.ptu_report.specs.declared.fault.RunFault.TheVariants.{Line, Read, Write, OutOfMemory}
+use Rattle.ptu_report.specs.declared.fault.RunFault.TheVariants.{Line}
 use Rattle.ptu_report.specs.{Reported.{HasReported}, Runs.{IfRefused}}
 use Rattle.ptu_audit.specs.declared.answer.AuditCause.{AuditCause}
 use Rattle.ptu_audit.specs.{Audited.{AnswerIsWritten, IsAnswer}, Reading.{audit_rules, first_reading}}
@@ -15,13 +15,9 @@ module _ {K : Type 0} (written : K → Option (List ℕ)) (handed : K → Option
 
   pub refusal_exact : (fault : RunFault AuditCause) → IsReported fault → IsAnswer capacity input (Err fault)
   refusal_exact (Line number cause) reported = sym reported.ends
-  refusal_exact Read reported = tt
-  refusal_exact Write reported = tt
-  refusal_exact OutOfMemory reported = tt
+  refusal_exact _ reported = tt
 
   pub refusal_written : (fault : RunFault AuditCause) → IsReported fault → AnswerIsWritten written handed old new (Err fault)
   refusal_written (Line number cause) reported =
       subst (HasPut written handed old new) (refused_read (first_reading capacity) 0 number cause (script_lines input) (sym reported.ends)) reported.put
-  refusal_written Read reported = tt
-  refusal_written Write reported = tt
-  refusal_written OutOfMemory reported = tt
+  refusal_written _ reported = tt

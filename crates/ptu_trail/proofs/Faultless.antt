@@ -45,7 +45,7 @@ abbrev pub IsNoShedding : List Record → Type 0
 IsNoShedding [] = Unit {0}
 IsNoShedding (r ∷ rest) = is_shedding r ≡ false
 
-pub none-at : (x : ℕ) (ys : List Record) → IsNoShedding ys → sheds_at x ys ≡ []
+none-at : (x : ℕ) (ys : List Record) → IsNoShedding ys → sheds_at x ys ≡ []
 none-at x (Shed n c k ∷ ys) other = absurd (true≢false other)
 none-at x _ other = refl
 
