@@ -1,18 +1,22 @@
 -- What a command makes of a grandmaster and its pools.
-use Rattle.std.proofs.Common.{◌≡◌, ◌∙◌, ℕ, ◌-◌, ◌<◌, ◌≤◌, All, true, false, cond, List, [], ◌∷◌, ◌++◌, length, map, Option, Some, None, IfSome, refl, sym, ap, subst, arith}
-use Rattle.std.proofs.lemmas.{Bool.{le-leb, lt-leb}, List.{map-append}}
+use Rattle.std.proofs.Common.{◌≡◌, ◌∙◌, ℕ, ◌-◌, ◌<◌, ◌≤◌, All, true, false, cond, List, [], ◌∷◌, ◌++◌, length, map, Option, Some, None, refl, sym, ap, subst, arith, zero, suc, slice_get, length-append}
+use Rattle.std.proofs.lemmas.{Bool.{le-leb, lt-leb}, List.Elements.{recursion_from_All}}
+use Rattle.std.proofs.lemmas.List.{map-append}
 use Rattle.ptu_outside.specs.MemoryPort.{MemoryPort}
 use Rattle.ptu_report.specs.Rules.{IsOutcome, Outcome, Refuses}
 use Rattle.ptu_script.specs.declared.command.GrandmasterSetup.{GrandmasterSetup}
-use Rattle.ptu_pool_run.specs.{declared.pool.Pool.{Pool}, Events.{PoolEvent, Turned}, Refusal.{Share}}
-use Rattle.ptu_pool_run.specs.PoolsStanding.{KeptPools}
-use Rattle.ptu_pool_run.specs.declared.cause.PoolCause.{PoolCause}
+use Rattle.ptu_pool_run.specs.{declared.pool.Pool.{Pool}, Events.{PoolEvent, Turned}}
+use Rattle.ptu_pool_run.specs.{Refusal.{Share}, Selling.{selling_refusal}, Sending.{lines_of_event}}
+use Rattle.ptu_pool_run.specs.PoolsStanding.{KeptPools, StandFor, ports_of_all}
+use Rattle.ptu_pool_run.specs.declared.{cause.PoolCause.{PoolCause}, pouring.Pouring.{Pouring}}
 use Rattle.ptu_pool_run.specs.declared.cause.PoolCause.TheVariants.{Number, Order}
-use Rattle.ptu_pool_run.specs.{Output.{pool_line_text}, declared.pouring.Pouring.{Pouring}}
+use Rattle.ptu_pool_run.specs.Output.{pool_line_text}
 use Rattle.ptu_pool_run.specs.Reading.{At, Told, behind_pools, pool_events, happened, told_setup, sold, sold_by, turned}
-use Rattle.ptu_pool_run.specs.{Selling.{selling_refusal}, Sending.{lines_of_event}}
 use Rattle.ptu_pool_run.specs.Standing.{AreSold, HasHappened, HaveSold, StandsFor, has_events, pools_of}
-use Rattle.ptu_pool_run.proofs.Sold.{none_share}
+use Rattle.ptu_pool_run.proofs.{Lent.{AllPorts}, Places.{none_share}}
+use Rattle.std.specs.List.{AllByRecursion}
+use Rattle.ptu_grandmaster.specs.Gm.{KeptGm}
+use Rattle.ptu_nodes.specs.Standing.{IsIdle, IsUnfailing, setup_config}
 
 -- ---- the grandmaster is set up
 
@@ -70,6 +74,26 @@ module _ (told : Told) (pool : Pool) (setup : GrandmasterSetup) (p : Pouring) (s
         },
         refl,
       )
+
+-- ---- pools that were just sold
+
+-- what is so of all ports is so of those of each grandmaster
+by_ports : (Q : MemoryPort → Type 0) (gms : List (KeptGm MemoryPort)) → AllByRecursion Q (ports_of_all gms) → (i : ℕ) (gm : KeptGm MemoryPort) → slice_get gms i ≡ Some gm → AllPorts Q gm
+by_ports Q [] all i gm is = absurd cc
+by_ports Q (g ∷ gms) (e0, (e1, (e2, (e3, (e4, rest))))) zero gm is = let same : g ≡ gm = cc in subst (AllPorts Q) same (e0, e1, e2, e3, e4)
+by_ports Q (g ∷ gms) (e0, (e1, (e2, (e3, (e4, rest))))) (suc i) gm is = by_ports Q gms rest i gm is
+
+pub sold_fresh : (setup : GrandmasterSetup) (before : List Pool) (pool : Pool) (kept : KeptPools MemoryPort) (ports : List MemoryPort) →
+    Share setup.capacity (before ++ pool ∷ []) →
+    kept.pools ≡ before ++ pool ∷ [] → ports_of_all kept.gms ≡ ports → All (λ (port : MemoryPort). port.sent ≡ []) ports → All (λ (port : MemoryPort). port.failing_sends ≡ []) ports → StandFor (setup_config setup) kept [] →
+    AreSold setup kept []
+sold_fresh setup before pool kept ports share pools_are ports_are idle sure stand = record {
+  some = subst (λ (l : List Pool). 1 ≤ length l) (sym pools_are) (omega (arith, length-append before (pool ∷ [])));
+  share = subst (Share setup.capacity) (sym pools_are) share;
+  stand = stand;
+  idle = by_ports IsIdle kept.gms (recursion_from_All IsIdle (ports_of_all kept.gms) (subst (All (λ (port : MemoryPort). port.sent ≡ [])) (sym ports_are) idle));
+  sure = by_ports IsUnfailing kept.gms (recursion_from_All IsUnfailing (ports_of_all kept.gms) (subst (All (λ (port : MemoryPort). port.failing_sends ≡ [])) (sym ports_are) sure));
+}
 
 -- ---- an event happens
 
