@@ -26,8 +26,7 @@ delay_answer history x c =
 -- the record of an answer to a Delay_Req
 abbrev pub answer_records : ℕ → Client → Answer → List Record
 answer_records x c Answered = Sent x c DelayResp ∷ []
-answer_records x c NoGrant = []
-answer_records x c (TooSoon earliest) = []
+answer_records x c _ = []
 
 -- an event that is taken at the moment, after the history
 abbrev pub step : Config → List Record → ℕ → Event → Taken

@@ -29,7 +29,7 @@ use Rattle.ptu_nodes.specs.Standing.{setup_config}
 use Rattle.ptu_pool_run.specs.declared.command.PoolCommand.{PoolCommand}
 use Rattle.ptu_pool_run.specs.declared.command.PoolCommand.TheVariants as commands
 use Rattle.ptu_pool_run.specs.declared.output.PoolLine.{PoolLine}
-use Rattle.ptu_pool_run.specs.declared.output.PoolLine.TheVariants.{Sent, Stranger, Bad, End}
+use Rattle.ptu_pool_run.specs.declared.output.PoolLine.TheVariants.{Sent}
 use Rattle.ptu_pool_run.specs.{Output.{pool_line_text}, Reading.{Told, pool_events, none_told, pool_rules, told_after}}
 use Rattle.ptu_pool_run.specs.Sending.{sent_line}
 use Rattle.ptu_pool_run.specs.Poured.{lines_of_pool, own_at, own_lines_by, poured_lines, poured_texts, told_in, told_until}
@@ -50,9 +50,7 @@ pub record SayAlike (i : ℕ) (one other : Told) : Type 0 where
 -- the timing message in a line, unless it is a Signaling or no datagram
 abbrev pub timing_in : PoolLine → Option Timing
 timing_in (Sent line number channel to octets) = timing_to to octets
-timing_in (Stranger line) = None
-timing_in (Bad line cause) = None
-timing_in (End lines) = None
+timing_in _ = None
 
 -- the messages in a pool's history are, one for one and in order, the datagrams in its lines but for Signaling
 abbrev pub AreMessagesWritten : List ℕ → GrandmasterSetup → ℕ → Type 0
@@ -62,9 +60,7 @@ AreMessagesWritten script setup i =
 -- the line is of a datagram to an address of the pool at this place
 abbrev pub is_line_to : List Pool → ℕ → PoolLine → Bool
 is_line_to pools i (Sent line number channel to octets) = is_in_at pools i to
-is_line_to pools i (Stranger line) = false
-is_line_to pools i (Bad line cause) = false
-is_line_to pools i (End lines) = false
+is_line_to pools i _ = false
 
 -- the lines to the addresses of the pool, in order
 abbrev pub lines_to_pool : ℕ → List ℕ → List PoolLine
@@ -96,10 +92,9 @@ pub record GoesOnInPool {script : List ℕ} (p : Sold script) (line : ℕ) (comm
 
 -- the place of the pool that a command hands something to
 abbrev pub pool_addressed : Told → PoolCommand → Option ℕ
-pool_addressed told (commands.Grandmaster setup) = None
-pool_addressed told (commands.Sell pool) = None
 pool_addressed told (commands.Receive t from octets) = position (is_in from) told.pools
 pool_addressed told (commands.Turn t number table) = Some (number - 1)
+pool_addressed told _ = None
 
 -- a pool's history begins empty; each datagram from an address of the pool, and each turn of it, makes it go on with just the
 -- events that this is; and no other line changes it

@@ -42,9 +42,8 @@ sold_by told pool (Some cause) = Refuses cause
 
 -- a pool is sold, before any event
 abbrev pub sold : Told → Pool → Option GrandmasterSetup → List At → Outcome Told PoolCause
-sold told pool None events = Refuses Order
 sold told pool (Some setup) [] = sold_by told pool (selling_refusal setup.capacity told.pools pool)
-sold told pool (Some setup) (event ∷ events) = Refuses Order
+sold told pool _ _ = Refuses Order
 
 -- an event happens at this line
 abbrev pub happened : Told → ℕ → PoolEvent → GrandmasterSetup → Outcome Told PoolCause
@@ -59,9 +58,8 @@ turned told line t number table setup =
 
 -- an event after a pool
 abbrev pub behind_pools : Option GrandmasterSetup → List Pool → (GrandmasterSetup → Outcome Told PoolCause) → Outcome Told PoolCause
-behind_pools None pools then_ = Refuses Order
-behind_pools (Some setup) [] then_ = Refuses Order
 behind_pools (Some setup) (pool ∷ pools) then_ = then_ setup
+behind_pools _ _ then_ = Refuses Order
 
 -- what a command at this line does
 abbrev pub told_after : Told → ℕ → PoolCommand → Outcome Told PoolCause
