@@ -1,7 +1,7 @@
 -- The first finding of groups and of acts, with one more of them.
-use Rattle.std.proofs.Common.{◌≡◌, ◌∙◌, ℕ, ◌+◌, ◌<◌, ◌≤◌, ◌++◌, List, [], ◌∷◌, take, drop, length, get_or, Option, Some, None, refl, sym, ap, subst, append_assoc}
+use Rattle.std.proofs.Common.{◌≡◌, ◌∙◌, ℕ, ◌+◌, ◌<◌, ◌++◌, List, [], ◌∷◌, take, drop, length, get_or, Option, Some, None, refl, sym, ap, subst, append_assoc}
 use Rattle.std.specs.Option.{unwrap_or}
-use Rattle.std.proofs.lemmas.List.{append-nil, drop_all, drop_more, take_all, take_more}
+use Rattle.std.proofs.lemmas.List.{append-nil, drop_more, take_more}
 use Rattle.std.proofs.lemmas.List.Concat.{flat_map-append}
 use Rattle.ptu_audit.specs.declared.{line.Line.{Line}, deed.Act.{Act}, deed.Finding.{Finding}}
 use Rattle.ptu_audit.specs.{declared.ledger.Ledger.{Ledger}, Groups.{acts_of}}
@@ -60,12 +60,6 @@ module _ (capacity : ℕ) (before acts : List Act) where
     pub kept : AreKept ledger (before ++ take place acts)
     pub rest : acts_finding capacity before acts ≡ acts_finding capacity (before ++ take place acts) (drop place acts)
 
-  pub none_taken : (ledger : Ledger) → AreKept ledger before → AreTaken 0 ledger
-  none_taken ledger kept = record {
-    kept = subst (AreKept ledger) (sym (append-nil before)) kept;
-    rest = ap (λ b. acts_finding capacity b acts) (sym (append-nil before));
-  }
-
   next : (place : ℕ) (d : Act) → place < length acts → acts_finding capacity (before ++ take place acts) (drop place acts)
       ≡ or_later_finding (act_finding capacity (before ++ take place acts) (get_or acts place d)) (acts_finding capacity ((before ++ take place acts) ++ get_or acts place d ∷ []) (drop (place + 1) acts))
   next place d lt = ap (acts_finding capacity (before ++ take place acts)) (drop_more acts place d lt)
@@ -84,14 +78,3 @@ module _ (capacity : ℕ) (before acts : List Act) where
             ∙ ap (λ o. or_later_finding o (acts_finding capacity ((before ++ take place acts) ++ get_or acts place d ∷ []) (drop (place + 1) acts))) here
             ∙ ap (λ b. acts_finding capacity b (drop (place + 1) acts)) (sym (more place d lt));
       }
-
-  pub one_found : (place : ℕ) (d : Act) (ledger : Ledger) (finding : Finding) → place < length acts → AreTaken place ledger → Some finding ≡ act_finding capacity (before ++ take place acts) (get_or acts place d)
-      → Some finding ≡ acts_finding capacity before acts
-  one_found place d ledger finding lt s is =
-      sym (s.rest ∙ next place d lt ∙ ap (λ o. or_later_finding o (acts_finding capacity ((before ++ take place acts) ++ get_or acts place d ∷ []) (drop (place + 1) acts))) (sym is))
-
-  pub all_taken : (place : ℕ) (ledger : Ledger) → length acts ≤ place → AreTaken place ledger → (None ≡ acts_finding capacity before acts) × AreKept ledger (before ++ acts)
-  all_taken place ledger le s = (
-    sym (s.rest ∙ ap (acts_finding capacity (before ++ take place acts)) (drop_all place acts le)),
-    subst (λ more. AreKept ledger (before ++ more)) (take_all place acts le) s.kept,
-  )

@@ -19,9 +19,6 @@ use Rattle.ptu_history.proofs.Order.{IsPermutation-in_order, shed_prefix-rest}
 use Rattle.ptu_history.proofs.Orders.{live_distinct, live_members, shed_order-distinct}
 use Rattle.ptu_history.specs.{Order.{in_order}, Shedding.{shed_cmp}}
 
-rate : Grant → ℕ
-rate g = rate_of g.log
-
 -- a sum in two parts
 rates-parts : (p : Grant → Bool) (gs : List Grant) → rate_sum gs ≡ rate_sum (filter (λ g. not (p g)) gs) + rate_sum (filter p gs)
 rates-parts p [] = refl

@@ -129,9 +129,6 @@ message-part history j g on =
     (subst (λ i. sequence_number (part_of_clients i history) g.client g.kind ≡ sequence_number history g.client g.kind) (eqb-true (table_of g.client) j on) (sequence-part history g.client g.kind))
 
 module _ (history : List Record) (x j : ℕ) where
-  still_live : Grant → Bool
-  still_live g = ltb x g.until
-
   part : List Record
   part = part_of_clients j history
 

@@ -1,39 +1,22 @@
 -- What a command makes of a grandmaster and its pools.
-use Rattle.std.proofs.Common.{◌≡◌, ◌∙◌, ℕ, ◌-◌, ◌<◌, ◌≤◌, All, true, false, cond, List, [], ◌∷◌, ◌++◌, length, map, Option, Some, None, refl, sym, ap, subst, arith, zero, suc, slice_get, length-append}
-use Rattle.std.proofs.lemmas.{Bool.{le-leb, lt-leb}, List.Elements.{recursion_from_All}}
-use Rattle.std.proofs.lemmas.List.{map-append}
+use Rattle.std.proofs.Common.{◌≡◌, ◌∙◌, ℕ, ◌-◌, ◌≤◌, All, true, cond, List, [], ◌∷◌, ◌++◌, length, map, Option, Some, None, refl, sym, ap, subst, arith, zero, suc, slice_get, length-append}
+use Rattle.std.proofs.lemmas.{Bool.{le-leb}, List.Elements.{recursion_from_All}, List.{map-append}}
 use Rattle.ptu_outside.specs.MemoryPort.{MemoryPort}
 use Rattle.ptu_report.specs.Rules.{IsOutcome, Outcome, Refuses}
 use Rattle.ptu_script.specs.declared.command.GrandmasterSetup.{GrandmasterSetup}
 use Rattle.ptu_pool_run.specs.{declared.pool.Pool.{Pool}, Events.{PoolEvent, Turned}}
-use Rattle.ptu_pool_run.specs.{Refusal.{Share}, Selling.{selling_refusal}, Sending.{lines_of_event}}
+use Rattle.ptu_pool_run.specs.{Refusal.{Share}, Sending.{lines_of_event}, Output.{pool_line_text}}
 use Rattle.ptu_pool_run.specs.PoolsStanding.{KeptPools, StandFor, ports_of_all}
 use Rattle.ptu_pool_run.specs.declared.{cause.PoolCause.{PoolCause}, pouring.Pouring.{Pouring}}
-use Rattle.ptu_pool_run.specs.declared.cause.PoolCause.TheVariants.{Number, Order}
-use Rattle.ptu_pool_run.specs.Output.{pool_line_text}
-use Rattle.ptu_pool_run.specs.Reading.{At, Told, behind_pools, pool_events, happened, told_setup, sold, sold_by, turned}
+use Rattle.ptu_pool_run.specs.declared.cause.PoolCause.TheVariants.{Number}
+use Rattle.ptu_pool_run.specs.Reading.{At, Told, behind_pools, pool_events, happened, turned}
 use Rattle.ptu_pool_run.specs.Standing.{AreSold, HasHappened, HaveSold, StandsFor, has_events, pools_of}
 use Rattle.ptu_pool_run.proofs.{Lent.{AllPorts}, Places.{none_share}}
 use Rattle.std.specs.List.{AllByRecursion}
 use Rattle.ptu_grandmaster.specs.Gm.{KeptGm}
 use Rattle.ptu_nodes.specs.Standing.{IsIdle, IsUnfailing, setup_config}
 
--- ---- the grandmaster is set up
-
-pub set_up_again : (told : Told) (setup before : GrandmasterSetup) (p after : Pouring) → StandsFor p told → p.setup ≡ Some before →
-    IsOutcome (told_setup told setup told.setup) (StandsFor after) [] (Some Order)
-set_up_again told setup before p after s is = subst (λ o. IsOutcome (told_setup told setup o) (StandsFor after) [] (Some Order)) (sym (s.setup ∙ is)) refl
-
 -- ---- a pool is sold
-
-pub sold_are : (p : Pouring) (told : Told) → StandsFor p told → told.pools ≡ pools_of p.pools
-sold_are p told s = by p.setup p.pools s.sold
-  where
-    by : (o : Option GrandmasterSetup) (k : Option (KeptPools MemoryPort)) → HaveSold o k told → told.pools ≡ pools_of k
-    by None None h = h.0
-    by (Some x) None h = h.0
-    by None (Some kept) h = absurd h
-    by (Some x) (Some kept) h = h.0
 
 pub share_of : (p : Pouring) (told : Told) (setup : GrandmasterSetup) → StandsFor p told → p.setup ≡ Some setup → Share setup.capacity (pools_of p.pools)
 share_of p told setup s is = by p.pools (subst (λ o. HaveSold o p.pools told) is s.sold)
@@ -41,39 +24,6 @@ share_of p told setup s is = by p.pools (subst (λ o. HaveSold o p.pools told) i
     by : (k : Option (KeptPools MemoryPort)) → HaveSold (Some setup) k told → Share setup.capacity (pools_of k)
     by None h = none_share setup.capacity
     by (Some kept) h = h.1.share
-
--- where nothing has happened
-none_happened : (events : List At) → has_events events ≡ false → events ≡ []
-none_happened [] e = refl
-none_happened (event ∷ events) e = absurd (let never : true ≡ false = e in cc)
-
-module _ (told : Told) (pool : Pool) (setup : GrandmasterSetup) (p : Pouring) (s : StandsFor p told) (is : p.setup ≡ Some setup) (begun : p.has_begun ≡ false) where
-  abbrev cause : Option PoolCause
-  cause = selling_refusal setup.capacity (pools_of p.pools) pool
-
-  no_events : told.events ≡ []
-  no_events = none_happened told.events (sym s.begun ∙ begun)
-
-  outcome_is : sold told pool told.setup told.events ≡ sold_by told pool cause
-  outcome_is =
-      ap (λ o. sold told pool o told.events) (s.setup ∙ is) ∙ ap (sold told pool (Some setup)) no_events
-      ∙ ap (λ l. sold_by told pool (selling_refusal setup.capacity l pool)) (sold_are p told s)
-
-  pub sold_refused : (found : PoolCause) (after : Pouring) → cause ≡ Some found → IsOutcome (sold told pool told.setup told.events) (StandsFor after) [] (Some found)
-  sold_refused found after e = subst (λ o. IsOutcome o (StandsFor after) [] (Some found)) (sym (outcome_is ∙ ap (sold_by told pool) e)) refl
-
-  pub sold_more : (kept : KeptPools MemoryPort) → cause ≡ None → kept.pools ≡ pools_of p.pools ++ pool ∷ [] → AreSold setup kept [] →
-      IsOutcome (sold told pool told.setup told.events) (StandsFor (record p { pools = Some kept })) [] None
-  sold_more kept e pools_are are_sold =
-      subst (λ o. IsOutcome o (StandsFor (record p { pools = Some kept })) [] None) (sym (outcome_is ∙ ap (sold_by told pool) e)) (
-        record {
-          setup = s.setup;
-          begun = s.begun;
-          sold = subst (λ o. HaveSold o (Some kept) (record told { pools = told.pools ++ pool ∷ [] })) (sym is)
-              (ap (λ l. l ++ pool ∷ []) (sold_are p told s) ∙ sym pools_are, subst (λ (l : List At). AreSold setup kept (pool_events l)) (sym no_events) are_sold);
-        },
-        refl,
-      )
 
 -- ---- pools that were just sold
 
@@ -139,13 +89,6 @@ module _ (told : Told) (p : Pouring) (kept : KeptPools MemoryPort) (s : StandsFo
     has.says ∙ ap (λ (l : List Pool). map pool_line_text (lines_of_event h.setup l (pool_events told.events) line event)) (sym h.pools),
   )
 
-  pub came_so : (line : ℕ) (event : PoolEvent) (kept' : KeptPools MemoryPort) (texts' : List (List ℕ)) →
-      HasHappened h.setup line (pool_events told.events) event kept kept' [] texts' →
-      IsOutcome (behind_pools told.setup told.pools (happened told line event)) (StandsFor (record { setup = p.setup; pools = Some kept'; has_begun = true })) texts' None
-  came_so line event kept' texts' has =
-      subst (λ o. IsOutcome o (StandsFor (record { setup = p.setup; pools = Some kept'; has_begun = true })) texts' None) (sym (behind_them (happened told line event)))
-      (happened_so line event kept' texts' has)
-
   pub turned_so : (line t number table : ℕ) (kept' : KeptPools MemoryPort) (texts' : List (List ℕ)) → number ≤ length kept.pools →
       HasHappened h.setup line (pool_events told.events) (Turned t (number - 1) table) kept kept' [] texts' →
       IsOutcome (behind_pools told.setup told.pools (turned told line t number table)) (StandsFor (record { setup = p.setup; pools = Some kept'; has_begun = true })) texts' None
@@ -154,11 +97,3 @@ module _ (told : Told) (p : Pouring) (kept : KeptPools MemoryPort) (s : StandsFo
       (sym (behind_them (turned told line t number table)
       ∙ ap (λ b. cond b (happened told line (Turned t (number - 1) table) h.setup) (Refuses Number)) (le-leb number (length told.pools) (subst (λ (l : List Pool). number ≤ length l) (sym h.pools) le))))
       (happened_so line (Turned t (number - 1) table) kept' texts' has)
-
-  pub no_such_pool : (line t number table : ℕ) (after : Pouring) (texts : List (List ℕ)) → length kept.pools < number →
-      IsOutcome (behind_pools told.setup told.pools (turned told line t number table)) (StandsFor after) texts (Some Number)
-  no_such_pool line t number table after texts lt =
-      subst (λ o. IsOutcome o (StandsFor after) texts (Some Number))
-      (sym (behind_them (turned told line t number table)
-      ∙ ap (λ b. cond b (happened told line (Turned t (number - 1) table) h.setup) (Refuses Number)) (lt-leb number (length told.pools) (subst (λ (l : List Pool). length l < number) (sym h.pools) lt))))
-      refl

@@ -70,9 +70,6 @@ not_before a b h = at (ltb b.until a.until) refl
 -- ---- the entries of a map
 
 module _ (n : ℕ) where
-  pub ended_first : (e : End × ℕ) (es : List (End × ℕ)) → e.0.until ≤ n → filter (is_live_entry n) (e ∷ es) ≡ filter (is_live_entry n) es
-  ended_first e es le = ap (λ b. cond b (e ∷ filter (is_live_entry n) es) (filter (is_live_entry n) es)) (le-ltb n e.0.until le)
-
   -- where the first one is live, all are
   pub all_live : (first : End) (es : List (End × ℕ)) → n < first.until → All (λ k. is_gt (ends.cmp-value.it first k) ≡ false) (keys_of es) → es ≡ filter (is_live_entry n) es
   all_live first [] lt above = refl
