@@ -1,33 +1,35 @@
 -- What holds of the trails of a report in which nothing is found.
-use Rattle.std.proofs.Common.{◌≡◌, ◌∙◌, ℕ, ◌+◌, ◌≤◌, ◌++◌, Bool, true, false, cond, eqb, List, [], ◌∷◌, length, map, Option, Some, None, refl, sym, ap, subst, arith, length-append}
+use Rattle.std.proofs.Common.{◌≡◌, ◌∙◌, ℕ, ◌+◌, ◌≤◌, ◌++◌, Bool, true, false, cond, eqb, List, [], ◌∷◌, length, map, Option, Some, None, refl, sym, ap, subst, arith, length-append, option_map, Err}
 use Rattle.std.proofs.ByRecursion.{All-append}
-use Rattle.std.specs.Prelude.{Ok}
-use Rattle.std.specs.List.{filter, fold}
-use Rattle.ptu_lines.specs.Script.{ScriptLine, Whole, Refused}
+use Rattle.std.specs.{Prelude.{Ok, IfSome}, List.{filter, fold}}
+use Rattle.ptu_lines.specs.Script.{ScriptLine, Whole, Refused, script_lines}
+use Rattle.ptu_report.specs.declared.fault.RunFault.TheVariants as faults
 use Rattle.ptu_report.specs.declared.ending.Ending.TheVariants as endings
-use Rattle.ptu_report.specs.Rules.{Outcome, Goes, Refuses, closing, ending_after, ending_at, meaning_after, meaning_at, texts_at, texts_until}
+use Rattle.ptu_report.specs.Rules.{Outcome, Goes, Refuses, closing, ending_after, ending_at, meaning_after, meaning_at, texts_at, texts_until, meaning_of}
+use Rattle.ptu_report.specs.{declared.fault.RunFault.{RunFault}, Reported.{HasReported}}
+use Rattle.ptu_report.specs.Runs.{IfRefused}
 use Rattle.ptu_laws.specs.Promises.{KeepsPromises}
 use Rattle.ptu_history.specs.History.{Record}
 use Rattle.ptu_trail.specs.declared.cause.Shedding.{Shedding}
 use Rattle.ptu_trail.specs.Faults.{AreInRange, IsFaultless, IsInRange, record_of}
-use Rattle.ptu_audit_lines.specs.declared.entry.ReportLine.{ReportLine}
 use Rattle.ptu_audit_lines.specs.declared.entry.ReportLine.TheVariants as report
-use Rattle.ptu_audit_lines.specs.Entry.{line_of}
-use Rattle.ptu_audit.specs.declared.answer.AuditCause.{AuditCause}
-use Rattle.ptu_audit.specs.declared.answer.AuditCause.TheVariants as causes
-use Rattle.ptu_audit.specs.declared.line.Line.{Line}
-use Rattle.ptu_audit.specs.declared.deed.{Act.{Act}, Deed.{Deed}}
-use Rattle.ptu_audit.specs.declared.deed.Deed.TheVariants as deeds
-use Rattle.ptu_audit.specs.Lines.{said_by}
-use Rattle.ptu_audit.specs.Groups.{groups_of}
-use Rattle.ptu_audit.specs.{Texts.{answer_text, refusal_text}, declared.answer.Answer.{Answer}}
+use Rattle.ptu_audit_lines.specs.{declared.entry.ReportLine.{ReportLine}, Entry.{line_of}}
 use Rattle.ptu_audit.specs.declared.answer.Answer.TheVariants as answers
-use Rattle.ptu_audit.specs.declared.deed.Finding.{Finding}
+use Rattle.ptu_audit.specs.declared.deed.Deed.TheVariants as deeds
+use Rattle.ptu_audit.specs.declared.answer.AuditCause.TheVariants as causes
+use Rattle.ptu_audit.specs.declared.{answer.AuditCause.{AuditCause}, auditor.Auditor.{Auditor}}
+use Rattle.ptu_audit.specs.declared.{line.Line.{Line}, deed.Deed.{Deed}, deed.Finding.{Finding}}
+use Rattle.ptu_audit.specs.{declared.deed.Act.{Act}, Groups.{groups_of}, Standing.{StandsFor}}
+use Rattle.ptu_audit.specs.Lines.{said_by}
+use Rattle.ptu_audit.specs.{Texts.{answer_text, refusal_text}, declared.answer.Answer.{Answer}}
 use Rattle.ptu_audit.specs.Trails.{acts_in, audit_answer_by, audit_answer_of, as_counted, groups_finding, is_act_by, records_of, trail_of, trail_with}
-use Rattle.ptu_audit.specs.Reading.{Reading, audit_rules, cause_of_line, end_read, is_disordered, line_read, with_entry}
-use Rattle.ptu_audit.specs.Audited.{AllKeepPromises, IsAuditKept, report_lines}
-use Rattle.ptu_audit.proofs.{Exact.{none_from, sound_from}, Faultless.{Laws, faultless}}
-use Rattle.ptu_audit.proofs.{Counts.{AreActs, AreLines, IsDeed, all_told, groups_told}, Ranges.{IsSaidInRange, said_within}}
+use Rattle.ptu_audit.specs.Reading.{Reading, audit_rules, cause_of_line, end_read, is_disordered, line_read, with_entry, first_reading}
+use Rattle.ptu_audit.specs.Audited.{AllKeepPromises, IsAuditKept, report_lines, AnswerIsWritten, IsAnswer}
+use Rattle.ptu_audit.proofs.Counts.{AreActs, AreLines, IsDeed, all_told, groups_told, counts_exact}
+use Rattle.ptu_audit.proofs.Ranges.{IsSaidInRange, said_within}
+use Rattle.ptu_audit.proofs.Faultless.{Laws, faultless, none_from, sound_from}
+use Rattle.ptu_report.proofs.FewLines.{few_lines}
+use Rattle.ptu_outside.specs.Handing.{HasPut}
 
 -- ---- trails
 
@@ -182,3 +184,34 @@ answer_kept laws kept capacity input lines (answers.No line cause) is h e =
     found : (f : Option Finding) → answers.No line cause ≡ audit_answer_by f (acts_in (groups_of lines)) → f ≡ None → ⊥
     found None k none = absurd cc
     found (Some finding) k none = absurd cc
+
+-- ---- what an auditor answers that has read a report
+
+module _ (capacity : ℕ) (input : List ℕ) (read : IsRead (first_reading capacity) 0 (script_lines input)) (a : Auditor) (answer : Answer)
+    (says : (r : Reading) → StandsFor a r → answer ≡ as_counted (audit_answer_of r.capacity r.lines))
+    (last : IfSome (meaning_of audit_rules (first_reading capacity) (script_lines input)) (StandsFor a)) where
+  pub told : answer ≡ as_counted (audit_answer_of read.last.capacity read.last.lines)
+  told = says read.last (subst (λ (o : Option Reading). IfSome o (StandsFor a)) read.meaning last)
+
+  pub lines_are : report_lines capacity input ≡ Some read.last.lines
+  lines_are = ap (option_map (λ (r : Reading). r.lines)) read.meaning
+
+  pub answer_is : answer ≡ audit_answer_of capacity read.last.lines
+  answer_is =
+      told ∙ counts_exact read.last.capacity read.last.lines (omega (arith, read.few, few_lines input))
+      ∙ ap (λ m. audit_answer_of m read.last.lines) read.capacity
+
+-- ---- where it did not read its report to the end
+
+module _ {K : Type 0} (written : K → Option (List ℕ)) (handed : K → Option (List (List ℕ))) (old new : K) (capacity : ℕ) (input : List ℕ) where
+  abbrev IsReported : RunFault AuditCause → Type 0
+  IsReported fault = IfRefused fault (λ ending. HasReported written handed old new audit_rules (first_reading capacity) (script_lines input) ending)
+
+  pub refusal_exact : (fault : RunFault AuditCause) → IsReported fault → IsAnswer capacity input (Err fault)
+  refusal_exact (faults.Line number cause) reported = sym reported.ends
+  refusal_exact _ reported = tt
+
+  pub refusal_written : (fault : RunFault AuditCause) → IsReported fault → AnswerIsWritten written handed old new (Err fault)
+  refusal_written (faults.Line number cause) reported =
+      subst (HasPut written handed old new) (refused_read (first_reading capacity) 0 number cause (script_lines input) (sym reported.ends)) reported.put
+  refusal_written _ reported = tt

@@ -1,4 +1,4 @@
-use Rattle.ptu_audit.proofs.{Exact.{none_from, sound_from}, Faultless.{Laws}}
+use Rattle.ptu_audit.proofs.Faultless.{Laws, none_from, sound_from}
 use Rattle.ptu_audit.proofs.laws.findings.Goals as goal
 
 pub returns : goal.returns
