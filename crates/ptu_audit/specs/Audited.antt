@@ -2,16 +2,14 @@
 use Rattle.std.specs.Prelude.{◌≡◌, ℕ, List, [], ◌∷◌, Option, Some, option_map, Result, Ok, Err}
 use Rattle.ptu_outside.specs.Handing.{HasPut}
 use Rattle.ptu_lines.specs.Script.{script_lines}
-use Rattle.ptu_report.specs.declared.fault.RunFault.{RunFault}
-use Rattle.ptu_report.specs.declared.fault.RunFault.TheVariants.{Line as Refused}
 use Rattle.ptu_report.specs.declared.ending.Ending.TheVariants as endings
-use Rattle.ptu_report.specs.Rules.{ending_of, meaning_of}
+use Rattle.ptu_report.specs.{declared.fault.RunFault.{RunFault}, Rules.{ending_of, meaning_of}}
+use Rattle.ptu_report.specs.declared.fault.RunFault.TheVariants.{Line as Refused}
 use Rattle.ptu_laws.specs.Promises.{KeepsPromises}
-use Rattle.ptu_audit.specs.declared.answer.Answer.{Answer}
 use Rattle.ptu_audit.specs.declared.answer.Answer.TheVariants as answers
-use Rattle.ptu_audit.specs.declared.{answer.AuditCause.{AuditCause}, line.Line.{Line}}
-use Rattle.ptu_audit.specs.{Groups.{groups_of}, Reading.{audit_rules, first_reading}}
-use Rattle.ptu_audit.specs.Texts.{answer_text, refusal_text}
+use Rattle.ptu_audit.specs.declared.answer.{Answer.{Answer}, AuditCause.{AuditCause}}
+use Rattle.ptu_audit.specs.{declared.line.Line.{Line}, Groups.{groups_of}}
+use Rattle.ptu_audit.specs.{Reading.{audit_rules, first_reading}, Texts.{answer_text, refusal_text}}
 use Rattle.ptu_audit.specs.Trails.{AreSound, acts_in, audit_answer_of, trail_of}
 
 -- the lines of a report, where none of it is refused

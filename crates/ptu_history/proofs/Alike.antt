@@ -1,10 +1,9 @@
 -- Where the same concerns a client and kind in two histories, all that is said of them is the same.
 use Rattle.std.proofs.Common.{◌≡◌, List}
 use Rattle.ptu_units.specs.declared.{client.Client.{Client}, kind.Kind.{Kind}}
-use Rattle.ptu_history.specs.History.{Record, lease_records}
+use Rattle.ptu_history.specs.{History.{Record, lease_records}, Lawful.{earliest, last_period}}
 use Rattle.ptu_history.specs.Live.{last_decision}
 use Rattle.ptu_history.specs.Runs.{chain, root, sent_in_chain, sequence_number}
-use Rattle.ptu_history.specs.Lawful.{earliest, last_period}
 
 module _ (one other : List Record) (c : Client) (k : Kind) (same : lease_records one c k ≡ lease_records other c k) where
   pub last_decision-alike : last_decision one c k ≡ last_decision other c k

@@ -1,19 +1,18 @@
 -- The orders of a turn and of a shedding, by their members.
 use Rattle.std.proofs.Common.{◌≡◌, ◌≢◌, ◌∙◌, ◌↔◌, ℕ, ◌<◌, List, Bool, true, false, ◌&&◌, cond, eqb, ltb, leb, refl, sym, ap, get_or}
-use Rattle.std.specs.{List.{All, Contains, filter}, List.Sorted.{IsSorted}, Cmp.{IsTotalOrder}}
-use Rattle.std.specs.{Ordering.{nat_cmp, ordering_then}, declared.cmp.Ordering.{Ordering}}
-use Rattle.std.specs.declared.cmp.Ordering.TheVariants.{Less, Equal, Greater}
 use Rattle.std.proofs.lemmas.Bool.{and_from, and_parts, eq-eqb, eqb-true, false≢true, lt-ltb, ltb-true, true≢false}
 use Rattle.std.proofs.lemmas.List.{Elements.{All-contains, Contains-get_or}, Kept.{AllPairs-filter}}
 use Rattle.std.proofs.lemmas.List.Sorted.{Contains-permutation, IsPermutation-sym}
-use Rattle.ptu_units.specs.declared.kind.{Kind.{Kind}, Kind.TheVariants.{DelayResp}}
-use Rattle.ptu_units.specs.declared.client.Client.{Client}
+use Rattle.std.specs.{List.{All, Contains, filter}, Ordering.{nat_cmp, ordering_then}}
+use Rattle.std.specs.{List.Sorted.{IsSorted}, Cmp.{IsTotalOrder}}
+use Rattle.std.specs.declared.cmp.{Ordering.{Ordering}, Ordering.TheVariants.{Less, Equal, Greater}}
+use Rattle.ptu_units.specs.declared.kind.Kind.{Kind}
+use Rattle.ptu_units.specs.declared.{kind.Kind.TheVariants.{DelayResp}, client.Client.{Client}}
 use Rattle.ptu_units.specs.Client.{client_cmp, kind_cmp, kind_place, same_client, same_kind, same_lease, table_of}
-use Rattle.ptu_history.specs.{Order.{in_order}, History.{Record}}
+use Rattle.ptu_history.specs.{Order.{in_order}, Turns.{due_grants, is_due, is_turned, turn_cmp}}
+use Rattle.ptu_history.specs.History.{Record}
 use Rattle.ptu_history.specs.Live.{Grant, IsDistinctByLease, IsLastDecision, is_live, live, live_grants, standing}
-use Rattle.ptu_history.specs.Lawful.{earliest, lawful}
-use Rattle.ptu_history.specs.Turns.{due_grants, is_due, is_turned, turn_cmp}
-use Rattle.ptu_history.specs.Shedding.{shed_cmp, shed_order}
+use Rattle.ptu_history.specs.{Lawful.{earliest, lawful}, Shedding.{shed_cmp, shed_order}}
 use Rattle.ptu_units.proofs.Keys.{same_lease-sym}
 use Rattle.ptu_history.proofs.Order.{IsAsymmetric-total, IsPermutation-in_order, IsSorted-in_order, shed_cmp-total, turn_cmp-total}
 use Rattle.ptu_history.proofs.Standing.{Contains-filter, standing-distinct, standing-last, standing-member}

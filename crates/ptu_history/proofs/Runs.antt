@@ -1,9 +1,7 @@
 -- What is found as the first record of a run is where the run begins.
 use Rattle.std.proofs.Common.{◌≡◌, ◌∙◌, ◌%◌, ◌++◌, length, List, [], ◌∷◌, Bool, true, false, not, ◌&&◌, ◌||◌, cond, map, refl, sym, ap, subst, Option, Some, None}
-use Rattle.std.specs.List.{filter, find, list_any}
-use Rattle.std.proofs.lemmas.Bool.{false≢true, true≢false}
-use Rattle.std.specs.Option.{option_map_or}
-use Rattle.std.proofs.lemmas.List.{length-map}
+use Rattle.std.proofs.lemmas.{Bool.{false≢true, true≢false}, List.{length-map}}
+use Rattle.std.specs.{List.{filter, find, list_any}, Option.{option_map_or}}
 use Rattle.ptu_units.specs.declared.{client.Client.{Client}, kind.Kind.{Kind}}
 use Rattle.ptu_history.specs.History.{Record, Granted, is_decision, moment_of, lease_records}
 use Rattle.ptu_history.specs.Live.{last_decision}

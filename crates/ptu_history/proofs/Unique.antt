@@ -1,12 +1,11 @@
 -- A list in strict order is given by its members.
 use Rattle.std.proofs.Common.{◌≡◌, ◌∙◌, ◌⊎◌, inl, inr, zero, suc, ◌+◌, ◌<◌, List, [], ◌∷◌, length, get_or, Bool, true, false, cond, refl, sym, ap, subst, arith}
-use Rattle.std.specs.{List.{AllPairs, Contains, filter}, List.Sorted.{IsPermutation, IsSorted}}
-use Rattle.std.specs.{Cmp.{IsTotalOrder}, Ordering.{is_lt, ordering_reverse}}
-use Rattle.std.specs.declared.cmp.{Ordering.{Ordering}, Ordering.TheVariants.{Less, Equal, Greater}}
-use Rattle.std.proofs.lemmas.{Bool.{true≢false}, Cmp.{tied_itself}}
+use Rattle.std.proofs.lemmas.{Bool.{true≢false}, Cmp.{tied_itself}, List.Kept.{AllPairs-cons}}
 use Rattle.std.proofs.lemmas.List.Elements.{All-contains, All-contains_itself, All-filter, Contains-append_right, Contains-get_or, filter_passes}
-use Rattle.std.proofs.lemmas.List.Kept.{AllPairs-cons}
 use Rattle.std.proofs.lemmas.List.Sorted.{Contains-permutation, IsPermutation-sym, ranks_by, sorted_far}
+use Rattle.std.specs.{List.{AllPairs, Contains, filter}, Cmp.{IsTotalOrder}}
+use Rattle.std.specs.{List.Sorted.{IsPermutation, IsSorted}, Ordering.{is_lt, ordering_reverse}}
+use Rattle.std.specs.declared.cmp.{Ordering.{Ordering}, Ordering.TheVariants.{Less, Equal, Greater}}
 use Rattle.ptu_history.specs.Order.{in_order, insert_in_order}
 use Rattle.ptu_history.proofs.Order.{insert_permutes}
 

@@ -1,10 +1,10 @@
 -- When a timing message may be sent: in its own period, inside a live grant (the project's own
 -- choice).
 use Rattle.std.specs.Prelude.{ℕ, ◌+◌, ◌*◌, max, Bool, ◌&&◌, List, [], ◌∷◌, length, nat_le}
-use Rattle.ptu_units.specs.declared.kind.{Kind.{Kind}, Kind.TheVariants.{Announce, DelayResp}}
-use Rattle.ptu_units.specs.{declared.client.Client.{Client}, Log.{period_of}}
-use Rattle.ptu_history.specs.{History.{Record, Granted, lease_records}, Moments.{greatest_by}}
-use Rattle.ptu_history.specs.{Live.{live}, Runs.{chain, sent_in_chain}}
+use Rattle.ptu_units.specs.{declared.kind.Kind.{Kind}, Log.{period_of}}
+use Rattle.ptu_units.specs.declared.{kind.Kind.TheVariants.{DelayResp}, client.Client.{Client}}
+use Rattle.ptu_history.specs.{History.{Record, Granted, lease_records}, Runs.{chain, sent_in_chain}}
+use Rattle.ptu_history.specs.{Moments.{greatest_by}, Live.{live}}
 
 -- of what concerns a client and kind, the latest first: the period of the last grant, or 0 where
 -- there is none

@@ -1,19 +1,18 @@
 -- What is held at a moment is at most the capacity in force there, for every sound list of records.
 use Rattle.std.proofs.Common.{◌≡◌, ◌∙◌, ◌⊎◌, inl, inr, ℕ, ◌+◌, ◌<◌, ◌≤◌, max, ◌++◌, List, [], ◌∷◌, Bool, true, false, not, cond, eqb, ltb, refl, sym, ap, subst, arith, ℤ, append_assoc}
-use Rattle.std.specs.List.{filter}
 use Rattle.std.proofs.lemmas.{Bool.{eqb-true, lt-ltb, ltb-true, ltb-false}, List.{append-nil}}
 use Rattle.std.proofs.lemmas.List.{Elements.{filter-append}, Sums.{sum_by-append, sum_by-cons}}
-use Rattle.ptu_units.specs.{declared.kind.Kind.{Kind}, Log.{rate_of}}
-use Rattle.ptu_units.specs.{declared.client.Client.{Client}, Client.{same_lease}}
+use Rattle.std.specs.List.{filter}
+use Rattle.ptu_units.specs.declared.{kind.Kind.{Kind}, client.Client.{Client}}
+use Rattle.ptu_units.specs.{Log.{rate_of}, Client.{same_lease}}
 use Rattle.ptu_history.specs.History.{Record, Granted, Ended, Capacity, Shed, capacity_in_force, is_change, is_decision, moment_of}
 use Rattle.ptu_history.specs.{Moments.{book_moment}, Live.{Grant, live_grants, standing, without}}
-use Rattle.ptu_history.specs.{Verdict.{Config, others, rate_sum}, Events.{Event}}
-use Rattle.ptu_history.specs.{Core.{core_history}, Held.{force, held, terms}}
-use Rattle.ptu_history.proofs.Lists.{filter-comm}
+use Rattle.ptu_history.specs.{Verdict.{Config, others, rate_sum}, Held.{force, held, terms}}
+use Rattle.ptu_history.specs.{Events.{Event}, Core.{core_history}}
+use Rattle.ptu_history.proofs.{Lists.{filter-comm}, Moments.{book_moment-push}}
 use Rattle.ptu_history.proofs.Capacities.{capacity_in_force-changed, capacity_in_force-unchanged}
 use Rattle.ptu_history.proofs.Currents.{standing-ended, standing-granted, standing-shed}
 use Rattle.ptu_history.proofs.Held.{held-now, held-before, held-quiet, force-now, force-before, force-quiet}
-use Rattle.ptu_history.proofs.Moments.{book_moment-push}
 use Rattle.ptu_laws.specs.Sound.{IsSound, MayStand, sheds_at}
 use Rattle.ptu_laws.proofs.Rests.{rate_sum-filter, rate_sum-filter_le}
 use Rattle.ptu_laws.proofs.Stands.{AllStand, sound-core, stand-from}

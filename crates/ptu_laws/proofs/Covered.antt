@@ -1,19 +1,17 @@
 -- What the messages pay at a moment is within what is held there.
 use Rattle.std.proofs.Common.{◌≡◌, ◌∙◌, ℕ, zero, suc, ◌+◌, ◌-◌, ◌*◌, ◌/◌, ◌≤◌, List, [], ◌∷◌, Bool, true, false, not, ◌&&◌, ◌||◌, cond, leb, ltb, refl, sym, ap, arith, get_or, ℤ}
-use Rattle.std.specs.{List.{All, AllPairs, filter, list_any, sum_by}, Ordering.{int_eq}}
-use Rattle.std.proofs.{Math.Nat.{mul-div_cancel}, lemmas.Int.{ints}}
-use Rattle.std.proofs.lemmas.Bool.Decides.{Decides-int_eq}
+use Rattle.std.proofs.{Math.Nat.{mul-div_cancel}, lemmas.Int.{ints}, lemmas.List.Sums.{sum_by-cons}}
+use Rattle.std.proofs.lemmas.{Bool.Decides.{Decides-int_eq}, List.Kept.{AllPairs-filter}}
 use Rattle.std.proofs.lemmas.Bool.{and_parts, false_from_ne_true, false≢true, leb-true, ltb-true}
 use Rattle.std.proofs.lemmas.List.Elements.{All-filter, All-head, All-tail, filter_passes}
-use Rattle.std.proofs.lemmas.List.{Kept.{AllPairs-filter}, Sums.{sum_by-cons}}
-use Rattle.ptu_units.specs.declared.kind.{Kind.{Kind}, Kind.TheVariants.{Announce}}
-use Rattle.ptu_units.specs.Log.{IsLog, IsLogOf, period_of, rate_of}
-use Rattle.ptu_units.specs.{declared.client.Client.{Client}, Client.{same_lease}}
+use Rattle.std.specs.{List.{All, AllPairs, filter, list_any, sum_by}, Ordering.{int_eq}}
+use Rattle.ptu_units.specs.{declared.kind.Kind.{Kind}, Log.{IsLog, IsLogOf, period_of, rate_of}}
+use Rattle.ptu_units.specs.declared.{kind.Kind.TheVariants.{Announce}, client.Client.{Client}}
+use Rattle.ptu_units.specs.Client.{same_lease}
 use Rattle.ptu_history.specs.History.{Record}
 use Rattle.ptu_history.specs.Held.{Payment, Term, held, is_in_term, payments, terms}
 use Rattle.ptu_units.proofs.{Keys.{same_lease-true}, Tables.{rate-mul-period}}
-use Rattle.ptu_history.proofs.Lists.{list_any-filter}
-use Rattle.ptu_history.proofs.Members.{pairs_front, pairs_rest}
+use Rattle.ptu_history.proofs.{Lists.{list_any-filter}, Members.{pairs_front, pairs_rest}}
 use Rattle.ptu_laws.specs.Paid.{IsBefore, IsPaid, is_held_at, is_term_at}
 use Rattle.ptu_laws.proofs.Sums.{sum-filter}
 

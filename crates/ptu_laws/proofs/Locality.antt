@@ -1,25 +1,23 @@
 -- What a turn or a Delay_Req sends depends on the records of its table alone, and on the book's moment.
 use Rattle.std.proofs.Common.{◌≡◌, ◌∙◌, ℕ, max, List, [], ◌∷◌, map, reverse, Bool, true, false, ◌&&◌, cond, eqb, ltb, refl, sym, ap, subst, arith}
-use Rattle.std.specs.{List.{All, filter, list_any}, Ordering.{nat_cmp, ordering_then}}
 use Rattle.std.proofs.lemmas.Bool.{and_parts, eqb-true, eq-eqb, false≢true}
 use Rattle.std.proofs.lemmas.List.Elements.{All-weaker, filter_agree, filter_passes}
 use Rattle.std.proofs.lemmas.List.Sorted.{All-permutation}
-use Rattle.ptu_units.specs.declared.kind.{Kind.{Kind}, Kind.TheVariants.{DelayResp}}
-use Rattle.ptu_units.specs.declared.client.Client.{Client}
+use Rattle.std.specs.{List.{All, filter, list_any}, Ordering.{nat_cmp, ordering_then}}
+use Rattle.ptu_units.specs.declared.kind.Kind.{Kind}
+use Rattle.ptu_units.specs.declared.{kind.Kind.TheVariants.{DelayResp}, client.Client.{Client}}
 use Rattle.ptu_units.specs.Client.{client_cmp, kind_cmp, same_lease, table_of}
-use Rattle.ptu_history.specs.Order.{in_order}
+use Rattle.ptu_history.specs.{Order.{in_order}, Runs.{chain, sent_in_chain, sequence_number}}
 use Rattle.ptu_history.specs.History.{Record, Granted, Ended, Shed, Looked, Sent, concerns, decides, is_decision, moment_of, lease_records}
 use Rattle.ptu_history.specs.Moments.{book_moment, greatest_by, is_of_table, table_moment, table_part}
 use Rattle.ptu_history.specs.Live.{Grant, last_decision, live, live_grants, standing}
-use Rattle.ptu_history.specs.Runs.{chain, sent_in_chain, sequence_number}
-use Rattle.ptu_history.specs.{Lawful.{earliest, last_period, lawful}, Verdict.{Config}}
-use Rattle.ptu_history.specs.Events.{Turn, DelayReq, Turned, Responded}
+use Rattle.ptu_history.specs.Lawful.{earliest, last_period, lawful}
+use Rattle.ptu_history.specs.{Verdict.{Config}, Events.{Turn, DelayReq, Turned, Responded}}
 use Rattle.ptu_history.specs.Turns.{due_grants, is_due, is_turned, message_of, sent_record, turn_cmp}
 use Rattle.ptu_history.specs.Step.{answer_records, delay_answer, step}
 use Rattle.ptu_history.specs.Core.{core_step, table_step_moment}
 use Rattle.ptu_units.proofs.Keys.{same_lease-true}
-use Rattle.ptu_history.proofs.Lists.{filter-comm, list_any-filter}
-use Rattle.ptu_history.proofs.Order.{IsPermutation-in_order}
+use Rattle.ptu_history.proofs.{Lists.{filter-comm, list_any-filter}, Order.{IsPermutation-in_order}}
 use Rattle.ptu_laws.specs.Part.{is_of_clients, part_of_clients, part_of_table}
 use Rattle.ptu_laws.proofs.Parts.{filter-wider, in_order-agree, map-agree}
 

@@ -1,25 +1,23 @@
 -- The payments of each client and kind lie one after the other in held time, before their messages.
 use Rattle.std.proofs.Common.{◌≡◌, ◌∙◌, ℕ, suc, ◌+◌, ◌<◌, ◌≤◌, max, ◌++◌, List, [], ◌∷◌, Bool, true, false, cond, leb, ltb, refl, sym, ap, subst, arith, Some, ℤ, append_assoc}
-use Rattle.std.specs.List.{All, AllPairs}
 use Rattle.std.proofs.lemmas.Bool.{and_parts, false≢true, leb-true, ltb-true, ltb-false}
 use Rattle.std.proofs.lemmas.List.{Elements.{All-nil, All-push, All-weaker}, Kept.{AllPairs-cons}}
-use Rattle.ptu_units.specs.{declared.kind.Kind.{Kind}, Log.{period_of}}
-use Rattle.ptu_units.specs.{declared.client.Client.{Client}, Client.{same_lease}}
+use Rattle.std.specs.List.{All, AllPairs}
+use Rattle.ptu_units.specs.declared.{kind.Kind.{Kind}, client.Client.{Client}}
+use Rattle.ptu_units.specs.{Log.{period_of}, Client.{same_lease}}
 use Rattle.ptu_history.specs.History.{Record, Granted, Ended, Shed, Sent, concerns, decides, is_decision, moment_of, lease_records}
-use Rattle.ptu_history.specs.{Live.{last_decision, live}, Runs.{chain, continues}}
-use Rattle.ptu_history.specs.{Lawful.{earliest, last_period, lawful}, Verdict.{is_log_of}}
+use Rattle.ptu_history.specs.{Live.{last_decision, live}, Lawful.{earliest, last_period, lawful}}
+use Rattle.ptu_history.specs.{Runs.{chain, continues}, Verdict.{is_log_of}}
 use Rattle.ptu_history.specs.Held.{Payment, payment, payments, payments_after}
-use Rattle.ptu_history.proofs.PaymentLists.{payments-other, payments-sent}
-use Rattle.ptu_units.proofs.Keys.{same_lease-refl, same_lease-sym, same_lease-true}
-use Rattle.ptu_history.proofs.{Lists.{greatest_by-push}, Standing.{last_pushed}}
-use Rattle.ptu_history.proofs.Strangers.{chain-push, earliest-push}
+use Rattle.ptu_history.proofs.{PaymentLists.{payments-other, payments-sent}, Standing.{last_pushed}}
+use Rattle.ptu_history.proofs.{Lists.{greatest_by-push}, Strangers.{chain-push, earliest-push}}
 use Rattle.ptu_history.proofs.Renewals.{chain_is, earliest_new, earliest_same, last_period-granted}
+use Rattle.ptu_history.proofs.{AfterSteps.{chain-sent}, Members.{pairs_front, pairs_rest}}
+use Rattle.ptu_history.proofs.LiveGrants.{Continued, LiveGrant, continued, live-grant}
+use Rattle.ptu_units.proofs.Keys.{same_lease-refl, same_lease-sym, same_lease-true}
 use Rattle.ptu_laws.specs.{Sound.{last_sent, sent_part}, Paid.{IsBefore, IsPaid, is_held_at}}
 use Rattle.ptu_laws.proofs.Followed.{AllMayFollow, MayFollow, by_following, may-at, may-front, may-rest, own_sent}
 use Rattle.ptu_laws.proofs.{Stands.{log_range}, HeldTime.{held_at-new, held_at-push}}
-use Rattle.ptu_history.proofs.AfterSteps.{chain-sent}
-use Rattle.ptu_history.proofs.LiveGrants.{Continued, LiveGrant, continued, live-grant}
-use Rattle.ptu_history.proofs.Members.{pairs_front, pairs_rest}
 use Rattle.ptu_laws.proofs.Paced.{earliest-sent_le, is-message}
 
 -- a payment, as it is kept from record to record: its message is not after the last message of its client and kind

@@ -1,11 +1,11 @@
 -- Sound lists of records, one record after the other, and that the core's histories are sound.
 use Rattle.std.proofs.Common.{◌≡◌, ◌∙◌, ℕ, zero, suc, ◌+◌, ◌*◌, ◌≤◌, ◌++◌, List, [], ◌∷◌, map, Bool, true, false, not, cond, eqb, leb, ltb, refl, sym, ap, subst, arith, append_assoc, get_or, ◌<◌, Result, Ok, Err, ℤ}
-use Rattle.std.specs.{List.{All, filter}, Prelude.{int_le, pos, T}}
-use Rattle.std.proofs.lemmas.{List.{append-nil}, Bool.{and_parts, eq-eqb, false≢true, leb-true}}
-use Rattle.std.proofs.lemmas.List.Elements.{All-head, All-tail, All-weaker}
-use Rattle.ptu_units.specs.{declared.kind.Kind.{Kind}, Kind.{kind_of}}
-use Rattle.ptu_units.specs.Log.{IsLogOf, least_log, rate_of}
-use Rattle.ptu_units.specs.{declared.client.Client.{Client}, Client.{same_lease, table_of}}
+use Rattle.std.proofs.lemmas.{List.{append-nil}, List.Elements.{All-head, All-tail, All-weaker}}
+use Rattle.std.proofs.lemmas.Bool.{and_parts, eq-eqb, leb-true}
+use Rattle.std.specs.{List.{All, filter}, Prelude.{int_le, pos}}
+use Rattle.ptu_units.specs.{declared.kind.Kind.{Kind}, Client.{same_lease, table_of}}
+use Rattle.ptu_units.specs.Kind.{kind_of}
+use Rattle.ptu_units.specs.{Log.{IsLogOf, least_log, rate_of}, declared.client.Client.{Client}}
 use Rattle.ptu_history.specs.History.{Record, Granted, Ended, Capacity, Shed, Looked, Sent, capacity_in_force}
 use Rattle.ptu_history.specs.Moments.{book_moment, greatest_by, table_moment, table_part}
 use Rattle.ptu_history.specs.{Live.{Grant, live, live_grants, standing}, Lawful.{earliest, lawful}}
@@ -15,8 +15,7 @@ use Rattle.ptu_history.specs.{Turns.{due_grants, sent_record}, Shedding.{shed_gr
 use Rattle.ptu_history.specs.Step.{answer_records, delay_answer, verdict_records}
 use Rattle.ptu_history.specs.Core.{core_history, core_step, table_step_moment, book_step_moment}
 use Rattle.ptu_units.proofs.Keys.{eq-eqb-table, same_lease-true}
-use Rattle.ptu_history.proofs.Currents.{standing-shed}
-use Rattle.ptu_history.proofs.Lists.{filter-comm, greatest_by-push}
+use Rattle.ptu_history.proofs.{Currents.{standing-shed}, Lists.{filter-comm, greatest_by-push}}
 use Rattle.ptu_history.proofs.Moments.{book_step_moment-bounds, table_step_moment-bounds}
 use Rattle.ptu_history.proofs.{Rates.{rates-fit, table_below}, Verdicts.{is_log_of-true, to_T}}
 use Rattle.ptu_laws.specs.Sound.{IsSound, MayStand, last_sent, sent_part, sheds_at}

@@ -2,17 +2,14 @@
 use Rattle.std.proofs.Common.{◌≡◌, ℕ, ◌≤◌, ◌++◌, max, List, [], ◌∷◌, map, refl, arith, append_assoc, subst, sym}
 use Rattle.std.proofs.lemmas.List.{append-nil}
 use Rattle.ptu_units.specs.declared.client.Client.{Client}
-use Rattle.ptu_history.specs.History.{Record, Granted, moment_of}
+use Rattle.ptu_history.specs.{History.{Record, Granted, moment_of}, Turns.{due_grants, sent_record}}
 use Rattle.ptu_history.specs.Moments.{book_moment, book_part, table_moment, table_part}
-use Rattle.ptu_history.specs.Live.{Grant}
-use Rattle.ptu_history.specs.Verdict.{Config, Verdict, verdict, Outside}
+use Rattle.ptu_history.specs.{Live.{Grant}, Verdict.{Config, Verdict, verdict, Outside}}
 use Rattle.ptu_history.specs.Events.{Event, Request, Cancel, Turn, DelayReq, Resize, Answer, Answered}
-use Rattle.ptu_history.specs.{Turns.{due_grants, sent_record}, Shedding.{shed_grants, shed_record}}
+use Rattle.ptu_history.specs.{Shedding.{shed_grants, shed_record}, Core.{core_step, core_history}}
 use Rattle.ptu_history.specs.Step.{answer_records, delay_answer, step, verdict_records}
-use Rattle.ptu_history.specs.Core.{core_step, core_history}
 use Rattle.ptu_history.proofs.{Lists.{by_push}, Histories.{history-event, history-none}}
-use Rattle.ptu_history.proofs.Moments.{book_moment-push, table_moment-push}
-use Rattle.ptu_history.proofs.Moments.{table_part-le}
+use Rattle.ptu_history.proofs.Moments.{book_moment-push, table_moment-push, table_part-le}
 
 -- each of the records has this moment
 abbrev pub AllAt : ℕ → List Record → Type 0

@@ -1,8 +1,8 @@
 -- A message of the core is not before any record of its table, so not before the start of its grant.
 use Rattle.std.proofs.Common.{◌≡◌, ◌∙◌, ℕ, ◌<◌, ◌≤◌, max, ◌++◌, List, [], ◌∷◌, map, Bool, true, false, cond, eqb, refl, sym, ap, subst, arith, append_assoc, Some, ℤ}
+use Rattle.std.proofs.lemmas.{List.{append-nil}, List.Elements.{All-head, All-tail}}
+use Rattle.std.proofs.lemmas.Bool.{false≢true}
 use Rattle.std.specs.List.{All}
-use Rattle.std.proofs.lemmas.{List.{append-nil}, Bool.{false≢true}}
-use Rattle.std.proofs.lemmas.List.Elements.{All-head, All-tail}
 use Rattle.ptu_units.specs.declared.kind.Kind.{Kind}
 use Rattle.ptu_units.specs.{declared.client.Client.{Client}, Client.{same_lease, table_of}}
 use Rattle.ptu_history.specs.History.{Record, Granted, Ended, Capacity, Shed, Looked, Sent, decides, lease_records, moment_of}
@@ -13,10 +13,9 @@ use Rattle.ptu_history.specs.{Turns.{due_grants, sent_record}, Shedding.{shed_gr
 use Rattle.ptu_history.specs.Step.{answer_records, delay_answer, verdict_records}
 use Rattle.ptu_history.specs.Core.{core_history, core_step, table_step_moment, book_step_moment}
 use Rattle.ptu_units.proofs.Keys.{eq-eqb-table, same_lease-true}
-use Rattle.ptu_history.proofs.Lists.{by_push}
-use Rattle.ptu_history.proofs.LiveGrants.{LiveGrant, live-grant}
+use Rattle.ptu_history.proofs.{Lists.{by_push}, Standing.{last_pushed}}
+use Rattle.ptu_history.proofs.{LiveGrants.{LiveGrant, live-grant}, Orders.{due_grants-table}}
 use Rattle.ptu_history.proofs.Moments.{table_moment-push, table_step_moment-bounds}
-use Rattle.ptu_history.proofs.{Orders.{due_grants-table}, Standing.{last_pushed}}
 use Rattle.ptu_laws.proofs.{Stands.{sent-live, sound-core}, Steps.{by_events, table_moment-at}}
 
 -- a message is not before the moment of its client's table

@@ -1,7 +1,6 @@
 -- The part of a history that belongs to one table (the project's own choice).
 use Rattle.std.specs.{Prelude.{ℕ, Bool, false, List}, List.{filter}}
-use Rattle.ptu_history.specs.History.{Record, Looked}
-use Rattle.ptu_history.specs.Moments.{is_of_table}
+use Rattle.ptu_history.specs.{History.{Record, Looked}, Moments.{is_of_table}}
 
 -- the record is of a client of the table
 abbrev pub is_of_clients : ℕ → Record → Bool

@@ -3,14 +3,13 @@ use Rattle.std.specs.Prelude.{ℕ, ◌-◌, nat_le, if◌then◌else◌, List, [
 use Rattle.ptu_report.specs.Rules.{Rules, Outcome, Goes, Refuses}
 use Rattle.ptu_lines.specs.declared.cause.LineCause.{LineCause}
 use Rattle.ptu_script.specs.declared.command.GrandmasterSetup.{GrandmasterSetup}
-use Rattle.ptu_pool_run.specs.{declared.pool.Pool.{Pool}, Events.{PoolEvent, Came, Turned}}
-use Rattle.ptu_pool_run.specs.declared.cause.PoolCause.{PoolCause}
-use Rattle.ptu_pool_run.specs.declared.cause.PoolCause.TheVariants.{Order, Number}
-use Rattle.ptu_pool_run.specs.declared.command.PoolCommand.{PoolCommand}
 use Rattle.ptu_pool_run.specs.declared.command.PoolCommand.TheVariants as commands
-use Rattle.ptu_pool_run.specs.declared.output.PoolLine.TheVariants.{Bad, End}
-use Rattle.ptu_pool_run.specs.{Cause.{pool_cause_of_line}, Command.{pool_command_of}}
-use Rattle.ptu_pool_run.specs.{Output.{pool_line_text}, Sending.{lines_of_event}, Selling.{selling_refusal}}
+use Rattle.ptu_pool_run.specs.declared.{pool.Pool.{Pool}, output.PoolLine.TheVariants.{Bad, End}}
+use Rattle.ptu_pool_run.specs.{Events.{PoolEvent, Came, Turned}, Command.{pool_command_of}}
+use Rattle.ptu_pool_run.specs.{declared.cause.PoolCause.{PoolCause}, Cause.{pool_cause_of_line}}
+use Rattle.ptu_pool_run.specs.declared.cause.PoolCause.TheVariants.{Order, Number}
+use Rattle.ptu_pool_run.specs.{declared.command.PoolCommand.{PoolCommand}, Sending.{lines_of_event}}
+use Rattle.ptu_pool_run.specs.{Output.{pool_line_text}, Selling.{selling_refusal}}
 
 -- an event with the number of its line
 abbrev pub At : Type 0

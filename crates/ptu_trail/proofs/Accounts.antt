@@ -1,21 +1,20 @@
 -- The clients by address, after one more record.
 use Rattle.std.proofs.Common.{◌≡◌, ◌∙◌, ◌≢◌, ℕ, ◌+◌, ◌*◌, ◌++◌, ◌&&◌, ◌||◌, max, eqb, ltb, ◌<◌, ◌^◌, Bool, IfNone, true, false, not, cond, List, [], ◌∷◌, Option, Some, None, refl, sym, ap, ap₂, subst, arith}
+use Rattle.std.proofs.lemmas.Bool.{and_right, eq-eqb, le-ltb, lt-leb, lt-ltb, eqb-true, ltb-true, false_from_ne_true, or_parts, true≢false, false≢true}
+use Rattle.std.proofs.lemmas.List.Elements.{All-head, All-tail}
+use Rattle.std.proofs.{lemmas.List.Folds.{find-append, list_any-append}, Math.Bool.{or-false}}
 use Rattle.std.specs.{List.{All, find, list_any}, Option.{option_or, unwrap_or}}
 use Rattle.std.specs.Ordering.{is_eq, nat_cmp}
 use Rattle.std.specs.declared.cmp.Ordering.TheVariants.{Less, Equal, Greater}
-use Rattle.std.proofs.lemmas.Bool.{and_right, eq-eqb, le-ltb, lt-leb, lt-ltb, eqb-true, ltb-true, false_from_ne_true, or_parts, true≢false, false≢true}
-use Rattle.std.proofs.lemmas.List.Elements.{All-head, All-tail}
-use Rattle.std.proofs.lemmas.List.Folds.{find-append, list_any-append}
-use Rattle.std.proofs.Math.Bool.{or-false}
-use Rattle.ptu_units.specs.declared.kind.{Kind.{Kind}, Kind.TheVariants.{Announce}}
-use Rattle.ptu_units.specs.declared.{client.Client.{Client}, stamp.Stamp.{Stamp}}
-use Rattle.ptu_units.specs.Client.{same_client, same_kind, same_lease}
+use Rattle.ptu_units.specs.{declared.kind.Kind.{Kind}, Client.{same_client, same_kind, same_lease}}
+use Rattle.ptu_units.specs.declared.{kind.Kind.TheVariants.{Announce}, client.Client.{Client}}
+use Rattle.ptu_units.specs.declared.stamp.Stamp.{Stamp}
 use Rattle.ptu_history.specs.History.{Record, Granted, Ended, Capacity, Shed, Sent, concerns, decides}
 use Rattle.ptu_history.specs.{Moments.{greatest_by}, Live.{live}, Lawful.{earliest}}
 use Rattle.ptu_history.proofs.Decisions.{live-undecided}
 use Rattle.ptu_units.proofs.Keys.{same_client-refl, same_client-true}
-use Rattle.ptu_trail.specs.declared.{clients.Account.{Account}, known.Known.{Known}}
 use Rattle.ptu_trail.specs.declared.cause.NoCause.TheVariants as causes
+use Rattle.ptu_trail.specs.declared.{clients.Account.{Account}, known.Known.{Known}}
 use Rattle.ptu_trail.specs.Clients.{IsAccount}
 use Rattle.ptu_trail.specs.Faults.{client_at, decided_clients, decided_part, fault_of, is_of_other, is_shared, last_decided, last_sent_to, message_to, moment_of_stamp, sent_to_part}
 use Rattle.ptu_trail.specs.Known.{IsHeld, IsKnown, fault_by, lease_at, unknown}

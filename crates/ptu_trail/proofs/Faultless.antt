@@ -1,8 +1,7 @@
 -- Trails without a fault, one record after the other.
 use Rattle.std.proofs.Common.{◌≡◌, ◌∙◌, ℕ, ◌++◌, List, [], ◌∷◌, false, cond, eqb, Option, Some, None, refl, sym, ap, subst, append_assoc}
 use Rattle.std.proofs.lemmas.{List.{append-nil}, Bool.{true≢false}}
-use Rattle.ptu_history.specs.History.{Record, Granted, Capacity, Shed}
-use Rattle.ptu_history.specs.Counts.{is_shedding}
+use Rattle.ptu_history.specs.{History.{Record, Granted, Capacity, Shed}, Counts.{is_shedding}}
 use Rattle.ptu_laws.specs.Sound.{sheds_at}
 use Rattle.ptu_trail.specs.declared.cause.{Fault.{Fault}, NoCause.{NoCause}}
 use Rattle.ptu_trail.specs.Faults.{IsFaultless, behind, fault_of, first_fault, or_behind}

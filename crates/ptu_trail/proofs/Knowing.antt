@@ -3,16 +3,15 @@ use Rattle.std.proofs.Common.{◌≡◌, ◌∙◌, ℕ, ◌+◌, ◌^◌, ◌<�
 use Rattle.std.proofs.lemmas.{Bool.{lt-leb, ltb-true, and_right}, Bool.Decides.{Decides-int_eq}}
 use Rattle.std.specs.Ordering.{int_eq}
 use Rattle.ptu_units.specs.declared.kind.{Kind.{Kind}, Kind.TheVariants.{Announce, Sync, DelayResp}}
-use Rattle.ptu_units.specs.{declared.client.Client.{Client}, Log.{period_of}}
-use Rattle.ptu_units.specs.Client.{same_client, same_kind, same_lease}
+use Rattle.ptu_units.specs.declared.client.Client.{Client}
+use Rattle.ptu_units.specs.{Log.{period_of}, Client.{same_client, same_kind, same_lease}}
 use Rattle.ptu_history.specs.History.{Record, Ended, Granted, Sent, Shed, concerns, is_decision}
-use Rattle.ptu_history.specs.{Moments.{greatest_by}, Live.{last_decision}}
-use Rattle.ptu_history.specs.Lawful.{earliest, edge_after, last_period}
+use Rattle.ptu_history.specs.{Moments.{greatest_by}, Lawful.{earliest, edge_after}}
+use Rattle.ptu_history.specs.Live.{last_decision}
 use Rattle.ptu_units.proofs.Keys.{same_client-refl, same_lease-refl}
-use Rattle.ptu_history.proofs.AfterSteps.{live-last}
+use Rattle.ptu_history.proofs.{AfterSteps.{live-last}, Standing.{last_pushed}}
 use Rattle.ptu_history.proofs.{Decisions.{live-ended, live-shed}, Lists.{greatest_by-push}}
 use Rattle.ptu_history.proofs.Renewals.{earliest_new, earliest_same, edge_sent, first_continues, last_period-granted, other_continues}
-use Rattle.ptu_history.proofs.Standing.{last_pushed}
 use Rattle.ptu_history.proofs.Strangers.{earliest-push, live-undecided_push}
 use Rattle.ptu_trail.specs.declared.cause.NoCause.TheVariants as causes
 use Rattle.ptu_trail.specs.declared.known.{Known.{Known}, Lease.{Lease}}

@@ -1,17 +1,16 @@
 use Rattle.std.proofs.Common.{◌≡◌, ◌⊎◌, inl, inr, ◌<◌, ◌≤◌, ◌∙◌, ℕ, zero, suc, ◌+◌, ◌*◌, List, [], ◌∷◌, Bool, true, false, leb, ap, subst, arith, pos, refl, sym}
-use Rattle.std.specs.List.{Contains}
 use Rattle.std.proofs.lemmas.{Bool.{false≢true, leb-false, leb-true}, Int.{ints}}
+use Rattle.std.specs.List.{Contains}
 use Rattle.ptu_units.specs.{declared.kind.Kind.TheVariants.{Sync}, Log.{IsLogOf}}
-use Rattle.ptu_history.specs.{Core.{core_history}, Held.{budget, count}}
-use Rattle.ptu_history.specs.History.{Record, Granted, Ended, Capacity, Sent}
+use Rattle.ptu_history.specs.{Core.{core_history}, History.{Record, Granted, Ended, Capacity, Sent}}
+use Rattle.ptu_history.specs.Held.{budget, count}
 use Rattle.ptu_history.specs.Examples.{config_of, first_client, seconds, sync_and_turns, third_client}
 use Rattle.ptu_history.proofs.{Capacities.{budget-same}, OnLiterals.{histories_on_literals}}
 use Rattle.ptu_laws.proofs.Budget.{history-unchanged}
-use Rattle.ptu_laws.specs.{Paid.{is_held_at}, Sound.{IsSound, last_sent}}
+use Rattle.ptu_laws.proofs.{Served.{held_time-all, periods-sound}, Stands.{sound-core, sound-from}}
+use Rattle.ptu_laws.specs.{Paid.{is_held_at}, Sound.{IsSound, last_sent}, Examples.{just_missed}}
 use Rattle.ptu_laws.specs.Served.{count_below, held_time, held_time_at, is_held, periods_sent, sent_at, sum_sent}
-use Rattle.ptu_laws.specs.{Examples.{just_missed}, Turned.{IsInEach, sent_moments, turn_moments, turns_after}}
-use Rattle.ptu_laws.proofs.Served.{held_time-all, periods-sound}
-use Rattle.ptu_laws.proofs.Stands.{sound-core, sound-from}
+use Rattle.ptu_laws.specs.Turned.{IsInEach, sent_moments, turn_moments, turns_after}
 use Rattle.ptu_laws.proofs.examples.examples.Goals as goal
 
 -- a turn at each second to the tenth

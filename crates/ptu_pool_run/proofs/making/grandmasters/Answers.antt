@@ -1,6 +1,6 @@
-use Rattle.std.proofs.Common.{◌≡◌, ◌∙◌, ◌++◌, ◌∷◌, [], refl, sym, ap, arith, length, length-append, slice_get, Some}
-use Rattle.std.specs.Vec.Iter.{into_iter_items}
+use Rattle.std.proofs.Common.{◌≡◌, ◌∙◌, ◌++◌, ◌∷◌, [], sym, ap, arith, length, length-append, slice_get, Some}
 use Rattle.std.proofs.lemmas.Option.{MatchOption-at_some, slice_get-get_or}
+use Rattle.std.specs.Vec.Iter.{into_iter_items}
 use Rattle.ptu_pool_run.specs.{declared.pool.Pool.{Pool}, PoolsStanding.{ports_of_all}}
 use Rattle.ptu_pool_run.proofs.Standing.{five_are, fresh-push, ports-push, rest_long, rest_none}
 use Rattle.ptu_pool_run.proofs.making.grandmasters.Goals as goal
