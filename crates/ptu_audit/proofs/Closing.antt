@@ -1,15 +1,126 @@
--- An auditor whose last group is judged.
-use Rattle.std.proofs.Common.{◌≡◌, ◌∙◌, ℕ, ◌++◌, true, false, List, [], ◌∷◌, Option, Some, None, refl, sym, ap, subst}
-use Rattle.std.specs.{Prelude.{IfNone, OnOk, Result, Ok, Err}, Option.{unwrap_or}}
-use Rattle.ptu_audit.specs.declared.{auditor.Auditor.{Auditor}, deed.Act.{Act}}
-use Rattle.ptu_audit.specs.declared.{deed.Finding.{Finding}, ledger.Ledger.{Ledger}}
-use Rattle.ptu_audit.specs.declared.line.Line.{Line}
-use Rattle.ptu_audit.specs.Groups.{acts_of, groups_of, is_of_script, with_line}
-use Rattle.ptu_audit.specs.Reading.{Reading, last_script, first_reading}
-use Rattle.ptu_audit.specs.Standing.{AreKept, HasAdded, HasClosed, IsBegun, StandsFor, one_group}
-use Rattle.ptu_audit.specs.Trails.{acts_in, group_finding, groups_finding, or_later_finding}
-use Rattle.ptu_audit.proofs.Findings.{acts-closed, finding-closed}
-use Rattle.ptu_audit.proofs.Grouping.{begins, begun_more, groups_of-push, joins, last_script-push}
+-- An auditor with one line, one group or one act more.
+use Rattle.std.proofs.Common.{◌≡◌, ◌∙◌, ℕ, ◌++◌, true, false, cond, List, [], ◌∷◌, Some, refl, sym, ap, subst, append_assoc, ◌+◌, ◌<◌, take, drop, length, get_or, Option, None}
+use Rattle.std.proofs.lemmas.{List.Sums.{fold-append}, List.{append-nil, drop_more, take_more}}
+use Rattle.ptu_audit.specs.declared.{line.Line.{Line}, ledger.Ledger.{Ledger}}
+use Rattle.ptu_audit.specs.Groups.{groups_of, is_of_script, last_apart, with_line, acts_of}
+use Rattle.ptu_audit.specs.{Reading.{last_script, Reading, first_reading}, declared.deed.Act.{Act}}
+use Rattle.ptu_audit.specs.Standing.{IsBegun, one_group, AreKept, HasAdded, HasClosed, StandsFor}
+use Rattle.ptu_audit.specs.declared.{deed.Finding.{Finding}, auditor.Auditor.{Auditor}}
+use Rattle.ptu_audit.specs.Trails.{act_finding, acts_finding, acts_in, group_finding, groups_finding, or_later_finding}
+use Rattle.std.specs.{Option.{unwrap_or}, Prelude.{IfNone}}
+use Rattle.ptu_audit.proofs.Faultless.{acts_in-more}
+
+-- ---- the groups of lines
+
+groups_of-push : (lines : List Line) (line : Line) → groups_of (lines ++ line ∷ []) ≡ with_line (groups_of lines) line
+unfolding groups_of
+groups_of-push lines line = fold-append with_line [] lines (line ∷ [])
+
+last_script-push : (lines : List Line) (line : Line) → last_script (lines ++ line ∷ []) ≡ line.script
+unfolding last_script
+last_script-push lines line = fold-append (λ (script : ℕ) (l : Line). l.script) 0 lines (line ∷ [])
+
+with_line-last : (judged : List (List Line)) (group : List Line) (line : Line) → with_line (judged ++ group ∷ []) line ≡ judged ++ with_line (group ∷ []) line
+with_line-last (g ∷ h ∷ judged) group line = ap (λ gs. g ∷ gs) (with_line-last (h ∷ judged) group line)
+with_line-last _ group line = refl
+
+-- the line joins the last group
+joins : (judged : List (List Line)) (group : List Line) (line : Line) → is_of_script group line.script ≡ true
+    → with_line (judged ++ one_group group) line ≡ judged ++ one_group (group ++ line ∷ [])
+joins judged [] line e = absurd cc
+joins judged (x ∷ xs) line e =
+    with_line-last judged (x ∷ xs) line
+    ∙ ap (λ b. judged ++ cond b ((x ∷ xs ++ line ∷ []) ∷ []) ((x ∷ xs) ∷ (line ∷ []) ∷ [])) e
+
+-- the line begins a group
+begins : (judged : List (List Line)) (group : List Line) (line : Line) → IsBegun judged group → is_of_script group line.script ≡ false
+    → with_line (judged ++ one_group group) line ≡ (judged ++ one_group group) ++ (line ∷ []) ∷ []
+begins judged [] line begun e = subst (λ j. with_line (j ++ []) line ≡ (j ++ []) ++ (line ∷ []) ∷ []) (sym begun) refl
+begins judged (x ∷ xs) line begun e =
+    with_line-last judged (x ∷ xs) line
+    ∙ ap (λ b. judged ++ cond b ((x ∷ xs ++ line ∷ []) ∷ []) ((x ∷ xs) ∷ (line ∷ []) ∷ [])) e
+    ∙ sym (append_assoc judged ((x ∷ xs) ∷ []) ((line ∷ []) ∷ []))
+
+-- the last line apart
+pub last_apart-push : (front : List Line) (line : Line) → last_apart (front ++ line ∷ []) ≡ Some (front, line)
+last_apart-push [] line = refl
+last_apart-push (x ∷ front) line = rw (last_apart-push front line)
+
+-- with a line a group is begun
+begun_more : (judged : List (List Line)) (group : List Line) (line : Line) → IsBegun judged (group ++ line ∷ [])
+begun_more judged [] line = tt
+begun_more judged (x ∷ xs) line = tt
+
+-- ---- the first finding
+
+or_later-none : (f : Option Finding) → or_later_finding f None ≡ f
+or_later-none None = refl
+or_later-none (Some finding) = refl
+
+or_later-assoc : (a b c : Option Finding) → or_later_finding (or_later_finding a b) c ≡ or_later_finding a (or_later_finding b c)
+or_later-assoc None b c = refl
+or_later-assoc (Some finding) b c = refl
+
+groups_finding-push : (capacity : ℕ) (before groups : List (List Line)) (group : List Line)
+    → groups_finding capacity before (groups ++ group ∷ []) ≡ or_later_finding (groups_finding capacity before groups) (group_finding capacity (acts_in (before ++ groups)) group)
+groups_finding-push capacity before [] group =
+    or_later-none (group_finding capacity (acts_in before) group)
+    ∙ ap (λ gs. group_finding capacity (acts_in gs) group) (sym (append-nil before))
+groups_finding-push capacity before (x ∷ groups) group =
+    ap (or_later_finding (group_finding capacity (acts_in before) x)) (groups_finding-push capacity (before ++ x ∷ []) groups group)
+    ∙ sym (or_later-assoc (group_finding capacity (acts_in before) x) (groups_finding capacity (before ++ x ∷ []) groups) (group_finding capacity (acts_in ((before ++ x ∷ []) ++ groups)) group))
+    ∙ ap (λ gs. or_later_finding (or_later_finding (group_finding capacity (acts_in before) x) (groups_finding capacity (before ++ x ∷ []) groups)) (group_finding capacity (acts_in gs) group)) (append_assoc before (x ∷ []) groups)
+
+-- no lines tell nothing
+nothing_found : (capacity : ℕ) (before : List Act) → group_finding capacity before [] ≡ None
+unfolding acts_of
+nothing_found capacity before = refl
+
+nothing_told : unwrap_or (acts_of []) [] ≡ []
+unfolding acts_of
+nothing_told = refl
+
+finding-closed : (capacity : ℕ) (judged : List (List Line)) (group : List Line)
+    → groups_finding capacity [] (judged ++ one_group group) ≡ or_later_finding (groups_finding capacity [] judged) (group_finding capacity (acts_in judged) group)
+finding-closed capacity judged [] =
+    ap (groups_finding capacity []) (append-nil judged)
+    ∙ sym (or_later-none (groups_finding capacity [] judged))
+    ∙ ap (or_later_finding (groups_finding capacity [] judged)) (sym (nothing_found capacity (acts_in judged)))
+finding-closed capacity judged (x ∷ xs) = groups_finding-push capacity [] judged (x ∷ xs)
+
+acts-closed : (judged : List (List Line)) (group : List Line) → acts_in (judged ++ one_group group) ≡ acts_in judged ++ unwrap_or (acts_of group) []
+acts-closed judged [] =
+    ap acts_in (append-nil judged) ∙ sym (append-nil (acts_in judged)) ∙ ap (λ more. acts_in judged ++ more) (sym nothing_told)
+acts-closed judged (x ∷ xs) = acts_in-more judged (x ∷ xs)
+
+-- ---- acts
+
+module _ (capacity : ℕ) (before acts : List Act) where
+  -- the acts before this place have no finding, and the trails are those after them
+  pub record AreTaken (place : ℕ) (ledger : Ledger) : Type 0 where
+    pub kept : AreKept ledger (before ++ take place acts)
+    pub rest : acts_finding capacity before acts ≡ acts_finding capacity (before ++ take place acts) (drop place acts)
+
+  next : (place : ℕ) (d : Act) → place < length acts → acts_finding capacity (before ++ take place acts) (drop place acts)
+      ≡ or_later_finding (act_finding capacity (before ++ take place acts) (get_or acts place d)) (acts_finding capacity ((before ++ take place acts) ++ get_or acts place d ∷ []) (drop (place + 1) acts))
+  next place d lt = ap (acts_finding capacity (before ++ take place acts)) (drop_more acts place d lt)
+
+  more : (place : ℕ) (d : Act) → place < length acts → before ++ take (place + 1) acts ≡ (before ++ take place acts) ++ get_or acts place d ∷ []
+  more place d lt = ap (λ more. before ++ more) (take_more acts place d lt) ∙ sym (append_assoc before (take place acts) (get_or acts place d ∷ []))
+
+  pub one_taken : (place : ℕ) (d item : Act) (old new : Ledger) → place < length acts → item ≡ get_or acts place d → AreTaken place old → old.capacity ≡ capacity
+      → act_finding old.capacity (before ++ take place acts) item ≡ None → AreKept new ((before ++ take place acts) ++ item ∷ []) → AreTaken (place + 1) new
+  one_taken place d item old new lt one s same none kept =
+      let here : act_finding capacity (before ++ take place acts) (get_or acts place d) ≡ None =
+      ap (act_finding capacity (before ++ take place acts)) (sym one) ∙ ap (λ n. act_finding n (before ++ take place acts) item) (sym same) ∙ none in
+      record {
+        kept = subst (AreKept new) (ap (λ a. (before ++ take place acts) ++ a ∷ []) one ∙ sym (more place d lt)) kept;
+        rest = s.rest ∙ next place d lt
+            ∙ ap (λ o. or_later_finding o (acts_finding capacity ((before ++ take place acts) ++ get_or acts place d ∷ []) (drop (place + 1) acts))) here
+            ∙ ap (λ b. acts_finding capacity b (drop (place + 1) acts)) (sym (more place d lt));
+      }
+
+-- ---- an auditor
 
 if_none_map : {A P Q : Type 0} (o : Option A) → IfNone o P → (P → Q) → IfNone o Q
 if_none_map None p f = f p
@@ -64,10 +175,6 @@ nothing_read a capacity none found last ended kept same = record {
   last = last;
   ended = ended;
 }
-
-pub on_ok_map : {A E P Q : Type 0} (o : Result A E) → OnOk o P → (P → Q) → OnOk o Q
-on_ok_map (Ok x) p f = f p
-on_ok_map (Err e) p f = tt
 
 module _ (old new : Auditor) (r : Reading) (line : Line) where
   -- a line more in the last group

@@ -1,13 +1,13 @@
 -- The trails of all grandmasters, after one more act.
 use Rattle.std.proofs.Common.{◌≡◌, ◌∙◌, ℕ, ◌+◌, ◌++◌, eqb, Bool, true, false, cond, List, [], ◌∷◌, Option, Some, refl, sym, ap, subst, arith}
-use Rattle.std.specs.{List.{filter, fold}, Ordering.{is_eq, nat_cmp}}
 use Rattle.std.proofs.lemmas.{Bool.{eq-eqb, eqb-true}, List.{append-nil}}
-use Rattle.std.proofs.lemmas.List.{Elements.{filter-append}, Sums.{fold-append, sum_by-append}}
-use Rattle.ptu_trail.specs.{declared.trail.Trail.{Trail}, Trail.{StandsFor as IsTrail}}
+use Rattle.std.proofs.lemmas.List.{Elements.{filter-append}, Sums.{fold-append, sum_by_push}}
+use Rattle.std.specs.{List.{filter, fold}, Ordering.{is_eq, nat_cmp}}
+use Rattle.ptu_trail.specs.declared.trail.Trail.{Trail}
 use Rattle.ptu_trail.proofs.Accounts.{cmp_same}
 use Rattle.ptu_audit.specs.{declared.deed.Act.{Act}, Standing.{IsTrailKept}}
-use Rattle.ptu_units.specs.Counts.{counted}
 use Rattle.ptu_audit.specs.Trails.{grant_acts_in, is_act_by, is_grant_deed, is_message, message_acts_in, trail_of, trail_with}
+use Rattle.ptu_units.specs.Counts.{counted}
 
 pub trail_of-push : (g : ℕ) (before : List Act) (act : Act) (b : Bool) → eqb act.grandmaster g ≡ b → trail_of g (before ++ act ∷ []) ≡ cond b (trail_with (trail_of g before) act) (trail_of g before)
 unfolding trail_of
@@ -51,9 +51,6 @@ pub others_now : (grandmaster : ℕ) (trail : Trail) (old new : ℕ → Option T
 others_now grandmaster trail old new updates q differs =
     updates q ∙ ap (λ b. cond b (Some trail) (old q)) differs
 
-zero_plus : (n : ℕ) → 0 + n ≡ n
-zero_plus n = omega arith
-
 -- before any act
 pub no_trail : (g : ℕ) → trail_of g [] ≡ []
 unfolding trail_of
@@ -65,7 +62,7 @@ counted_more n m true is = omega (arith, is)
 counted_more n m false is = omega (arith, is)
 
 pub grants-push : (before : List Act) (act : Act) → grant_acts_in (before ++ act ∷ []) ≡ grant_acts_in before + cond (is_grant_deed act.deed) 1 0
-grants-push before act = sum_by-append (λ (a : Act). cond (is_grant_deed a.deed) 1 0) before (act ∷ []) ∙ ap (λ n. grant_acts_in before + n) (zero_plus (cond (is_grant_deed act.deed) 1 0))
+grants-push before act = sum_by_push (λ (a : Act). cond (is_grant_deed a.deed) 1 0) before act
 
 pub messages-push : (before : List Act) (act : Act) → message_acts_in (before ++ act ∷ []) ≡ message_acts_in before + cond (is_message act.deed) 1 0
-messages-push before act = sum_by-append (λ (a : Act). cond (is_message a.deed) 1 0) before (act ∷ []) ∙ ap (λ n. message_acts_in before + n) (zero_plus (cond (is_message act.deed) 1 0))
+messages-push before act = sum_by_push (λ (a : Act). cond (is_message a.deed) 1 0) before act

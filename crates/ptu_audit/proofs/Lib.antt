@@ -1,11 +1,7 @@
 mod Closing
 mod Faultless
-mod Findings
-mod Grouping
 mod Ledgers
 mod Ranges
 mod Promises
 mod Counts
-mod Answering
-mod Exact
-mod Refusing
+mod OnLiterals

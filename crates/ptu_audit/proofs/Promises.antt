@@ -1,176 +1,35 @@
 -- What holds of the trails of a report in which nothing is found.
-use Rattle.std.proofs.Common.{◌≡◌, ◌∙◌, ℕ, ◌+◌, ◌≤◌, ◌++◌, Bool, true, false, cond, eqb, List, [], ◌∷◌, length, map, take, Option, Some, None, refl, sym, ap, subst, arith, length-append}
+use Rattle.std.proofs.Common.{◌≡◌, ◌∙◌, ℕ, ◌+◌, ◌≤◌, ◌++◌, Bool, true, false, cond, eqb, List, [], ◌∷◌, length, map, Option, Some, None, refl, sym, ap, subst, arith, length-append, option_map, Err}
 use Rattle.std.proofs.ByRecursion.{All-append}
-use Rattle.std.specs.Prelude.{IfSome, Ok, filter_map}
-use Rattle.std.specs.List.{AllByRecursion, cons_option, filter, flat_map, fold, list_any}
-use Rattle.std.specs.Option.{unwrap_or}
-use Rattle.ptu_lines.specs.Script.{ScriptLine, Whole, Refused}
+use Rattle.std.specs.{Prelude.{Ok, IfSome}, List.{filter, fold}}
+use Rattle.ptu_lines.specs.Script.{ScriptLine, Whole, Refused, script_lines}
+use Rattle.ptu_report.specs.declared.fault.RunFault.TheVariants as faults
 use Rattle.ptu_report.specs.declared.ending.Ending.TheVariants as endings
-use Rattle.ptu_report.specs.Rules.{Outcome, Goes, Refuses, closing, ending_after, ending_at, meaning_after, meaning_at, texts_at, texts_until}
+use Rattle.ptu_report.specs.Rules.{Outcome, Goes, Refuses, closing, ending_after, ending_at, meaning_after, meaning_at, texts_at, texts_until, meaning_of}
+use Rattle.ptu_report.specs.{declared.fault.RunFault.{RunFault}, Reported.{HasReported}}
+use Rattle.ptu_report.specs.Runs.{IfRefused}
 use Rattle.ptu_laws.specs.Promises.{KeepsPromises}
-use Rattle.ptu_units.specs.{declared.client.Client.{Client}, Log.{IsLogOf}}
 use Rattle.ptu_history.specs.History.{Record}
 use Rattle.ptu_trail.specs.declared.cause.Shedding.{Shedding}
 use Rattle.ptu_trail.specs.Faults.{AreInRange, IsFaultless, IsInRange, record_of}
-use Rattle.ptu_audit_lines.specs.declared.entry.Decision.{Decision}
-use Rattle.ptu_audit_lines.specs.declared.entry.Decision.TheVariants as decisions
-use Rattle.ptu_audit_lines.specs.declared.entry.ReportLine.{ReportLine}
 use Rattle.ptu_audit_lines.specs.declared.entry.ReportLine.TheVariants as report
-use Rattle.ptu_audit_lines.specs.Entry.{line_of}
-use Rattle.ptu_audit.specs.declared.answer.AuditCause.{AuditCause}
-use Rattle.ptu_audit.specs.declared.answer.AuditCause.TheVariants as causes
-use Rattle.ptu_audit.specs.declared.line.{Line.{Line}, Said.{Said}}
-use Rattle.ptu_audit.specs.declared.line.Said.TheVariants as said
-use Rattle.ptu_audit.specs.declared.deed.{Act.{Act}, Deed.{Deed}}
-use Rattle.ptu_audit.specs.declared.deed.Deed.TheVariants as deeds
-use Rattle.ptu_audit.specs.Lines.{said_by}
-use Rattle.ptu_audit.specs.Groups.{act_at, acts_by, acts_of, answered_acts, answered_client, are_few_and_answered, are_told, changed, decided_acts, decides, deed_of, groups_of, is_of_script, last_apart, message_at, messages_in, said_deed, sheddings, shedding_of, with_line, in_front}
-use Rattle.ptu_audit.specs.{Texts.{answer_text, refusal_text}, declared.answer.Answer.{Answer}}
+use Rattle.ptu_audit_lines.specs.{declared.entry.ReportLine.{ReportLine}, Entry.{line_of}}
 use Rattle.ptu_audit.specs.declared.answer.Answer.TheVariants as answers
-use Rattle.ptu_audit.specs.declared.deed.Finding.{Finding}
+use Rattle.ptu_audit.specs.declared.deed.Deed.TheVariants as deeds
+use Rattle.ptu_audit.specs.declared.answer.AuditCause.TheVariants as causes
+use Rattle.ptu_audit.specs.declared.{answer.AuditCause.{AuditCause}, auditor.Auditor.{Auditor}}
+use Rattle.ptu_audit.specs.declared.{line.Line.{Line}, deed.Deed.{Deed}, deed.Finding.{Finding}}
+use Rattle.ptu_audit.specs.{declared.deed.Act.{Act}, Groups.{groups_of}, Standing.{StandsFor}}
+use Rattle.ptu_audit.specs.Lines.{said_by}
+use Rattle.ptu_audit.specs.{Texts.{answer_text, refusal_text}, declared.answer.Answer.{Answer}}
 use Rattle.ptu_audit.specs.Trails.{acts_in, audit_answer_by, audit_answer_of, as_counted, groups_finding, is_act_by, records_of, trail_of, trail_with}
-use Rattle.ptu_audit.specs.Reading.{Reading, audit_rules, cause_of_line, end_read, is_disordered, line_read, with_entry}
-use Rattle.ptu_audit.specs.Audited.{AllKeepPromises, IsAuditKept, report_lines}
-use Rattle.ptu_audit.proofs.{Exact.{none_from, sound_from}, Faultless.{Laws, faultless}}
-use Rattle.ptu_audit.proofs.Ranges.{IsDecisionInRange, IsSaidInRange, said_within}
-
-abbrev AreLines : List Line → Type 0
-AreLines lines = AllByRecursion (λ line. IsSaidInRange line.said) lines
-
-abbrev AreGroups : List (List Line) → Type 0
-AreGroups groups = AllByRecursion AreLines groups
-
-abbrev IsDeed : Deed → Type 0
-IsDeed (deeds.Granted at client kind log until) = IsLogOf kind log
-IsDeed _ = Unit {0}
-
-abbrev AreActs : List Act → Type 0
-AreActs acts = AllByRecursion (λ act. IsDeed act.deed) acts
-
-all_mapped : {X Y : Type 0} (P : X → Type 0) (Q : Y → Type 0) (f : X → Option Y) → ((x : X) → P x → IfSome (f x) Q) → (xs : List X) → AllByRecursion P xs → AllByRecursion Q (filter_map f xs)
-all_mapped P Q f h [] all = tt
-all_mapped P Q f h (x ∷ xs) all = at (f x) (h x all.0) (all_mapped P Q f h xs all.1)
-  where
-    at : (o : Option _) → IfSome o Q → AllByRecursion Q (filter_map f xs) → AllByRecursion Q (cons_option o (filter_map f xs))
-    at None here rest = rest
-    at (Some y) here rest = (here, rest)
-
-all_flat : {X Y : Type 0} (P : X → Type 0) (Q : Y → Type 0) (f : X → List Y) → ((x : X) → P x → AllByRecursion Q (f x)) → (xs : List X) → AllByRecursion P xs → AllByRecursion Q (flat_map f xs)
-all_flat P Q f h [] all = tt
-all_flat P Q f h (x ∷ xs) all = All-append Q (f x) (flat_map f xs) (h x all.0) (all_flat P Q f h xs all.1)
-
--- ---- groups
-
-with_line_in : (groups : List (List Line)) (line : Line) → AreGroups groups → IsSaidInRange line.said → AreGroups (with_line groups line)
-with_line_in [] line all h = ((h, tt), tt)
-with_line_in (group ∷ []) line all h = at (is_of_script group line.script)
-  where
-    at : (b : Bool) → AreGroups (cond b ((group ++ line ∷ []) ∷ []) (group ∷ (line ∷ []) ∷ []))
-    at true = (All-append (λ (l : Line). IsSaidInRange l.said) group (line ∷ []) all.0 (h, tt), tt)
-    at false = (all.0, ((h, tt), tt))
-with_line_in (group ∷ next ∷ groups) line all h = (all.0, with_line_in (next ∷ groups) line all.1 h)
-
-fold_in : (groups : List (List Line)) (lines : List Line) → AreGroups groups → AreLines lines → AreGroups (fold with_line groups lines)
-fold_in groups [] all h = all
-fold_in groups (line ∷ lines) all h = fold_in (with_line groups line) lines (with_line_in groups line all h.0) h.1
-
-groups_in : (lines : List Line) → AreLines lines → AreGroups (groups_of lines)
-unfolding groups_of
-groups_in lines h = fold_in [] lines tt h
-
--- ---- acts
-
-deed_in : (client : Client) (d : Decision) → IsDecisionInRange d → IfSome (deed_of client d) IsDeed
-deed_in client (decisions.Granted kind log at until) h = h
-deed_in client (decisions.Short kind log at others rate capacity) h = tt
-deed_in client (decisions.OutsideType code) h = tt
-deed_in client (decisions.OutsideLog kind log) h = tt
-deed_in client (decisions.OutsideDuration kind log seconds) h = tt
-deed_in client (decisions.Cancelled kind at) h = tt
-deed_in client (decisions.Nothing kind at) h = tt
-deed_in client (decisions.NothingCode code) h = tt
-
-said_deed_in : (client : Client) (s : Said) → IsSaidInRange s → IfSome (said_deed client s) IsDeed
-said_deed_in client (said.Decided d) h = deed_in client d h
-said_deed_in client (said.Change grandmaster capacity at) h = tt
-said_deed_in client (said.Shed kind c) h = tt
-said_deed_in client (said.Signaled from to target list) h = tt
-said_deed_in client (said.Timed from to kind stamp) h = tt
-said_deed_in client said.Other h = tt
-
-act_in : (line : Line) (g : ℕ) (deed : Option Deed) → IfSome deed IsDeed → IfSome (act_at line g deed) (λ act. IsDeed act.deed)
-act_in line g None h = tt
-act_in line g (Some deed) h = h
-
-apart_in : (lines : List Line) → AreLines lines → IfSome (last_apart lines) (λ parts. AreLines parts.0)
-apart_in [] h = tt
-apart_in (line ∷ rest) h = at (last_apart rest) (apart_in rest h.1)
-  where
-    at : (o : Option (List Line × Line)) → IfSome o (λ parts. AreLines parts.0) → IfSome (in_front line o) (λ parts. AreLines parts.0)
-    at None k = tt
-    at (Some parts) k = (h.0, k)
-
-answered_acts_in : (asked : List Line) (s : Said) → AreLines asked → IfSome (answered_acts asked s) AreActs
-answered_acts_in asked (said.Decided d) h = tt
-answered_acts_in asked (said.Change grandmaster capacity at) h = tt
-answered_acts_in asked (said.Shed kind c) h = tt
-answered_acts_in asked (said.Signaled from to target list) h = at (are_few_and_answered asked list)
-  where
-    told : List Act
-    told = filter_map (λ line. act_at line from (said_deed (answered_client to target) line.said)) asked
-
-    at : (b : Bool) → IfSome (cond b (Some told) None) AreActs
-    at true = all_mapped (λ (l : Line). IsSaidInRange l.said) (λ (act : Act). IsDeed act.deed) (λ line. act_at line from (said_deed (answered_client to target) line.said)) (λ line k. act_in line from (said_deed (answered_client to target) line.said) (said_deed_in (answered_client to target) line.said k)) asked h
-    at false = tt
-answered_acts_in asked (said.Timed from to kind stamp) h = tt
-answered_acts_in asked said.Other h = tt
-
-decided_acts_in : (parts : Option (List Line × Line)) → IfSome parts (λ p. AreLines p.0) → IfSome (decided_acts parts) AreActs
-decided_acts_in None h = tt
-decided_acts_in (Some parts) h = answered_acts_in parts.0 parts.1.said h
-
-changed_in : (number g capacity at : ℕ) (rest : List Line) → IfSome (changed number g capacity at rest) AreActs
-changed_in number g capacity at rest = by (are_told g rest)
-  where
-    by : (b : Bool) → IfSome (cond b (Some (record { line = number; grandmaster = g; deed = deeds.Changed at capacity (filter_map (λ line. shedding_of line.said) (take (sheddings rest) rest)) } ∷ [])) None) AreActs
-    by true = (tt, tt)
-    by false = tt
-
-message_in : (number : ℕ) (s : Said) → IfSome (message_at number s) (λ act. IsDeed act.deed)
-message_in number (said.Decided d) = tt
-message_in number (said.Change grandmaster capacity at) = tt
-message_in number (said.Shed kind c) = tt
-message_in number (said.Signaled from to target list) = tt
-message_in number (said.Timed from to kind stamp) = tt
-message_in number said.Other = tt
-
-messages : (group : List Line) → AreLines group → IfSome (messages_in group) AreActs
-messages group h = at (list_any (λ line. decides line.said) group)
-  where
-    at : (b : Bool) → IfSome (cond b None (Some (filter_map (λ line. message_at line.number line.said) group))) AreActs
-    at true = tt
-    at false = all_mapped (λ (l : Line). IsSaidInRange l.said) (λ (act : Act). IsDeed act.deed) (λ line. message_at line.number line.said) (λ line k. message_in line.number line.said) group h
-
-acts_by_in : (line : Line) (rest : List Line) (s : Said) → AreLines (line ∷ rest) → IfSome (acts_by line rest s) AreActs
-acts_by_in line rest (said.Decided d) h = decided_acts_in (last_apart (line ∷ rest)) (apart_in (line ∷ rest) h)
-acts_by_in line rest (said.Change grandmaster capacity at) h = changed_in line.number grandmaster capacity at rest
-acts_by_in line rest (said.Shed kind c) h = messages (line ∷ rest) h
-acts_by_in line rest (said.Signaled from to target list) h = messages (line ∷ rest) h
-acts_by_in line rest (said.Timed from to kind stamp) h = messages (line ∷ rest) h
-acts_by_in line rest said.Other h = messages (line ∷ rest) h
-
-acts_of_in : (group : List Line) → AreLines group → IfSome (acts_of group) AreActs
-unfolding acts_of
-acts_of_in [] h = tt
-acts_of_in (line ∷ rest) h = acts_by_in line rest line.said h
-
-acts_in_range : (groups : List (List Line)) → AreGroups groups → AreActs (acts_in groups)
-acts_in_range groups h =
-    all_flat AreLines (λ (act : Act). IsDeed act.deed) (λ group. unwrap_or (acts_of group) []) (λ group k. at (acts_of group) (acts_of_in group k)) groups h
-  where
-    at : (o : Option (List Act)) → IfSome o AreActs → AreActs (unwrap_or o [])
-    at None k = tt
-    at (Some acts) k = k
+use Rattle.ptu_audit.specs.Reading.{Reading, audit_rules, cause_of_line, end_read, is_disordered, line_read, with_entry, first_reading}
+use Rattle.ptu_audit.specs.Audited.{AllKeepPromises, IsAuditKept, report_lines, AnswerIsWritten, IsAnswer}
+use Rattle.ptu_audit.proofs.Counts.{AreActs, AreLines, IsDeed, all_told, groups_told, counts_exact}
+use Rattle.ptu_audit.proofs.Ranges.{IsSaidInRange, said_within}
+use Rattle.ptu_audit.proofs.Faultless.{Laws, faultless, none_from, sound_from}
+use Rattle.ptu_report.proofs.FewLines.{few_lines}
+use Rattle.ptu_outside.specs.Handing.{HasPut}
 
 -- ---- trails
 
@@ -214,8 +73,6 @@ taken r number text after texts None is e = absurd cc
 taken r number text after texts (Some (report.At script entry)) is e = at (is_disordered r script) r.ended e
   where
     at : (b c : Bool) → cond b (Refuses causes.Order) (cond c (Refuses causes.End) (Goes (with_entry r number script entry) [])) ≡ Goes after texts → IsTaken r after texts
-    at true c f = absurd cc
-    at false true f = absurd cc
     at false false f =
         let same : with_entry r number script entry ≡ after = cc in
         let none : [] ≡ texts = cc in
@@ -226,6 +83,7 @@ taken r number text after texts (Some (report.At script entry)) is e = at (is_di
               (All-append (λ (l : Line). IsSaidInRange l.said) r.lines (record { number = number; script = script; said = said_by entry } ∷ []) h (said_within text script entry is, tt));
           more = omega (arith, ap (λ (q : Reading). length q.lines) same, length-append r.lines (record { number = number; script = script; said = said_by entry } ∷ []));
         }
+    at _ _ f = absurd cc
 taken r number text after texts (Some (report.End count datagrams)) is e = at r.ended e
   where
     at : (c : Bool) → cond c (Refuses causes.End) (Goes (record r { ended = true }) []) ≡ Goes after texts → IsTaken r after texts
@@ -307,7 +165,7 @@ pub promises : Laws → ((opening : ℕ) (trail : List Record) → AreInRange tr
 promises laws kept capacity lines h none g =
     let trail = trail_of g (acts_in (groups_of lines)) in
     let f : IsFaultless capacity trail = faultless laws capacity (groups_of lines) none g in
-    let ranges : AreInRange trail = trail_in g (acts_in (groups_of lines)) (acts_in_range (groups_of lines) (groups_in lines h)) in
+    let ranges : AreInRange trail = trail_in g (acts_in (groups_of lines)) ((all_told (groups_of lines)).1 ((groups_told lines).1 h)) in
     kept capacity trail ranges f
 
 -- the answer is yes exactly where the report is sound, and then they kept their promises
@@ -326,3 +184,34 @@ answer_kept laws kept capacity input lines (answers.No line cause) is h e =
     found : (f : Option Finding) → answers.No line cause ≡ audit_answer_by f (acts_in (groups_of lines)) → f ≡ None → ⊥
     found None k none = absurd cc
     found (Some finding) k none = absurd cc
+
+-- ---- what an auditor answers that has read a report
+
+module _ (capacity : ℕ) (input : List ℕ) (read : IsRead (first_reading capacity) 0 (script_lines input)) (a : Auditor) (answer : Answer)
+    (says : (r : Reading) → StandsFor a r → answer ≡ as_counted (audit_answer_of r.capacity r.lines))
+    (last : IfSome (meaning_of audit_rules (first_reading capacity) (script_lines input)) (StandsFor a)) where
+  pub told : answer ≡ as_counted (audit_answer_of read.last.capacity read.last.lines)
+  told = says read.last (subst (λ (o : Option Reading). IfSome o (StandsFor a)) read.meaning last)
+
+  pub lines_are : report_lines capacity input ≡ Some read.last.lines
+  lines_are = ap (option_map (λ (r : Reading). r.lines)) read.meaning
+
+  pub answer_is : answer ≡ audit_answer_of capacity read.last.lines
+  answer_is =
+      told ∙ counts_exact read.last.capacity read.last.lines (omega (arith, read.few, few_lines input))
+      ∙ ap (λ m. audit_answer_of m read.last.lines) read.capacity
+
+-- ---- where it did not read its report to the end
+
+module _ {K : Type 0} (written : K → Option (List ℕ)) (handed : K → Option (List (List ℕ))) (old new : K) (capacity : ℕ) (input : List ℕ) where
+  abbrev IsReported : RunFault AuditCause → Type 0
+  IsReported fault = IfRefused fault (λ ending. HasReported written handed old new audit_rules (first_reading capacity) (script_lines input) ending)
+
+  pub refusal_exact : (fault : RunFault AuditCause) → IsReported fault → IsAnswer capacity input (Err fault)
+  refusal_exact (faults.Line number cause) reported = sym reported.ends
+  refusal_exact _ reported = tt
+
+  pub refusal_written : (fault : RunFault AuditCause) → IsReported fault → AnswerIsWritten written handed old new (Err fault)
+  refusal_written (faults.Line number cause) reported =
+      subst (HasPut written handed old new) (refused_read (first_reading capacity) 0 number cause (script_lines input) (sym reported.ends)) reported.put
+  refusal_written _ reported = tt

@@ -2,26 +2,21 @@
 use Rattle.std.proofs.Common.{◌≡◌, ℕ, ◌||◌, Bool, true, false, cond, List, ◌∷◌, Option, Some, None, refl, subst, arith}
 use Rattle.std.proofs.lemmas.Int.{ints}
 use Rattle.std.specs.Prelude.{ℤ, pos, IfSome, option_and_then, codes, Result, Ok, Err}
-use Rattle.ptu_units.specs.declared.kind.Kind.{Kind}
 use Rattle.ptu_units.specs.declared.kind.Kind.TheVariants as kinds
-use Rattle.ptu_units.specs.Log.{IsLogOf, least_log}
+use Rattle.ptu_units.specs.{declared.kind.Kind.{Kind}, Log.{IsLogOf, least_log}}
 use Rattle.ptu_lines.specs.Words.{int_within, log_of, word_of}
-use Rattle.ptu_messages.specs.declared.message.Body.{Body}
 use Rattle.ptu_messages.specs.declared.message.Body.TheVariants as bodies
-use Rattle.ptu_messages.specs.declared.message.Message.{Message}
-use Rattle.ptu_messages.specs.{declared.fault.MessageFault.{MessageFault}, Reading.{message_in}}
-use Rattle.ptu_audit_lines.specs.declared.entry.Decision.{Decision}
-use Rattle.ptu_audit_lines.specs.declared.entry.Decision.TheVariants as decisions
-use Rattle.ptu_audit_lines.specs.declared.entry.Entry.{Entry}
-use Rattle.ptu_audit_lines.specs.declared.entry.Entry.TheVariants as entries
-use Rattle.ptu_audit_lines.specs.declared.entry.ReportLine.{ReportLine}
+use Rattle.ptu_messages.specs.declared.{message.Body.{Body}, fault.MessageFault.{MessageFault}}
+use Rattle.ptu_messages.specs.{declared.message.Message.{Message}, Reading.{message_in}}
 use Rattle.ptu_audit_lines.specs.declared.entry.ReportLine.TheVariants as report
-use Rattle.ptu_audit_lines.specs.Forms.{fitting}
+use Rattle.ptu_audit_lines.specs.declared.entry.Entry.TheVariants as entries
+use Rattle.ptu_audit_lines.specs.declared.entry.Decision.TheVariants as decisions
+use Rattle.ptu_audit_lines.specs.declared.entry.{Decision.{Decision}, ReportLine.{ReportLine}}
+use Rattle.ptu_audit_lines.specs.{declared.entry.Entry.{Entry}, Forms.{fitting}}
 use Rattle.ptu_audit_lines.specs.Words.{◌>>=◌, any_number, field, kind_named, log_of_kind}
 use Rattle.ptu_audit_lines.specs.Entry.{cancelled_in, capacity_in, decided_in, decision_in, end_in, entry_of, datagram_forms, first_of, granted_in, is_among, slave_forms, line_of, nothing_code_in, nothing_in, numbered_in, other_in, outside_duration_in, outside_log_in, outside_type_in, plain_entry_in, send_in, shed_in, short_in}
-use Rattle.ptu_audit.specs.declared.line.Said.{Said}
 use Rattle.ptu_audit.specs.declared.line.Said.TheVariants as said
-use Rattle.ptu_audit.specs.Lines.{said_by, sent_as, said_of_body}
+use Rattle.ptu_audit.specs.{declared.line.Said.{Said}, Lines.{said_by, sent_as, said_of_body}}
 
 -- the logarithm of a grant is in the range of its kind
 abbrev pub IsDecisionInRange : Decision → Type 0
@@ -114,12 +109,7 @@ line_in_range line = search (numbered, first, each) depth 30 fits 4000
 
 sent_in_range : (from to : ℕ) (body : Body) → IsSaidInRange (said_of_body from to body)
 sent_in_range from to (bodies.Sync stamp) = tt
-sent_in_range from to (bodies.DelayReq stamp) = tt
-sent_in_range from to (bodies.FollowUp stamp) = tt
-sent_in_range from to (bodies.DelayResp stamp requester) = tt
-sent_in_range from to (bodies.Announce body) = tt
-sent_in_range from to (bodies.Signaling target list) = tt
-sent_in_range from to bodies.Ignored = tt
+sent_in_range from to _ = tt
 
 read_in_range : (from to : ℕ) (read : Result Message MessageFault) → IsSaidInRange (sent_as from to read)
 read_in_range from to (Ok message) = sent_in_range from to message.body
@@ -127,10 +117,8 @@ read_in_range from to (Err fault) = tt
 
 said_in_range : (e : Entry) → IsEntryInRange e → IsSaidInRange (said_by e)
 said_in_range (entries.Decided d) h = h
-said_in_range (entries.Capacity grandmaster capacity at) h = tt
-said_in_range (entries.Shed kind log client) h = tt
 said_in_range (entries.Send number from to octets) h = read_in_range from to (message_in octets)
-said_in_range entries.Other h = tt
+said_in_range _ h = tt
 
 -- what a line of a report says
 pub said_within : (text : List ℕ) (number : ℕ) (e : Entry) → line_of text ≡ Some (report.At number e) → IsSaidInRange (said_by e)

@@ -1,15 +1,14 @@
 -- How a grandmaster answers REQUESTs and CANCELs, and tells of a shedding (IEEE 1588-2019 clause 16.1.4).
 use Rattle.std.specs.Prelude.{ℕ, ◌+◌, ◌*◌, ◌==◌, Bool, false, not, ◌&&◌, List, [], ◌∷◌, ℤ}
 use Rattle.std.specs.Ordering.{int_eq}
-use Rattle.ptu_units.specs.{declared.kind.Kind.{Kind}, Kind.{code_of}}
-use Rattle.ptu_messages.specs.declared.header.PortIdentity.{PortIdentity}
-use Rattle.ptu_messages.specs.declared.tlv.Tlv.{Tlv}
+use Rattle.ptu_units.specs.declared.{kind.Kind.{Kind}, client.Client.{Client}}
+use Rattle.ptu_units.specs.{Kind.{code_of}, Time.{second}}
 use Rattle.ptu_messages.specs.declared.tlv.Tlv.TheVariants as tlvs
-use Rattle.ptu_units.specs.{declared.client.Client.{Client}, Time.{second}}
-use Rattle.ptu_audit_lines.specs.declared.entry.Decision.{Decision}
+use Rattle.ptu_messages.specs.declared.{header.PortIdentity.{PortIdentity}, tlv.Tlv.{Tlv}}
 use Rattle.ptu_audit_lines.specs.declared.entry.Decision.TheVariants as decisions
-use Rattle.ptu_audit.specs.declared.line.Said.{Said}
+use Rattle.ptu_audit_lines.specs.declared.entry.Decision.{Decision}
 use Rattle.ptu_audit.specs.declared.line.Said.TheVariants as said
+use Rattle.ptu_audit.specs.declared.line.Said.{Said}
 
 -- a GRANT of the code and logarithm that invites a renewal, for the time from one moment to another
 abbrev pub grants : ℕ → ℤ → ℕ → ℕ → Tlv → Bool

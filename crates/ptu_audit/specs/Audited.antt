@@ -2,16 +2,14 @@
 use Rattle.std.specs.Prelude.{◌≡◌, ℕ, List, [], ◌∷◌, Option, Some, option_map, Result, Ok, Err}
 use Rattle.ptu_outside.specs.Handing.{HasPut}
 use Rattle.ptu_lines.specs.Script.{script_lines}
-use Rattle.ptu_report.specs.declared.fault.RunFault.{RunFault}
-use Rattle.ptu_report.specs.declared.fault.RunFault.TheVariants.{Line as Refused, Read, Write, OutOfMemory}
 use Rattle.ptu_report.specs.declared.ending.Ending.TheVariants as endings
-use Rattle.ptu_report.specs.Rules.{ending_of, meaning_of}
+use Rattle.ptu_report.specs.{declared.fault.RunFault.{RunFault}, Rules.{ending_of, meaning_of}}
+use Rattle.ptu_report.specs.declared.fault.RunFault.TheVariants.{Line as Refused}
 use Rattle.ptu_laws.specs.Promises.{KeepsPromises}
-use Rattle.ptu_audit.specs.declared.answer.Answer.{Answer}
 use Rattle.ptu_audit.specs.declared.answer.Answer.TheVariants as answers
-use Rattle.ptu_audit.specs.declared.{answer.AuditCause.{AuditCause}, line.Line.{Line}}
-use Rattle.ptu_audit.specs.{Groups.{groups_of}, Reading.{audit_rules, first_reading}}
-use Rattle.ptu_audit.specs.Texts.{answer_text, refusal_text}
+use Rattle.ptu_audit.specs.declared.answer.{Answer.{Answer}, AuditCause.{AuditCause}}
+use Rattle.ptu_audit.specs.{declared.line.Line.{Line}, Groups.{groups_of}}
+use Rattle.ptu_audit.specs.{Reading.{audit_rules, first_reading}, Texts.{answer_text, refusal_text}}
 use Rattle.ptu_audit.specs.Trails.{AreSound, acts_in, audit_answer_of, trail_of}
 
 -- the lines of a report, where none of it is refused
@@ -24,9 +22,7 @@ IsAnswer capacity input (Ok answer) =
     (lines : List Line) × (report_lines capacity input ≡ Some lines) × (answer ≡ audit_answer_of capacity lines)
 IsAnswer capacity input (Err (Refused number cause)) =
     ending_of audit_rules (first_reading capacity) (script_lines input) ≡ endings.Refused number cause
-IsAnswer capacity input (Err Read) = Unit {0}
-IsAnswer capacity input (Err Write) = Unit {0}
-IsAnswer capacity input (Err OutOfMemory) = Unit {0}
+IsAnswer capacity input (Err _) = Unit {0}
 
 -- the one line of output that says the answer was put, in one piece
 abbrev pub AnswerIsWritten : {K : Type 0} → (K → Option (List ℕ)) → (K → Option (List (List ℕ))) → K → K
@@ -34,9 +30,7 @@ abbrev pub AnswerIsWritten : {K : Type 0} → (K → Option (List ℕ)) → (K �
 AnswerIsWritten written handed old new (Ok answer) = HasPut written handed old new (answer_text answer ∷ [])
 AnswerIsWritten written handed old new (Err (Refused number cause)) =
     HasPut written handed old new (refusal_text number cause ∷ [])
-AnswerIsWritten written handed old new (Err Read) = Unit {0}
-AnswerIsWritten written handed old new (Err Write) = Unit {0}
-AnswerIsWritten written handed old new (Err OutOfMemory) = Unit {0}
+AnswerIsWritten written handed old new (Err _) = Unit {0}
 
 -- each grandmaster of these lines kept its promises
 abbrev pub AllKeepPromises : ℕ → List Line → Type 0

@@ -1,17 +1,15 @@
 -- The lines of a report in groups, and what a group tells of its grandmasters.
 use Rattle.std.specs.Prelude.{ℕ, ◌*◌, ◌/◌, ◌==◌, Bool, true, false, ◌&&◌, nat_le, if◌then◌else◌, List, [], ◌∷◌, ◌++◌, length, take, drop, Option, Some, None, filter_map}
 use Rattle.std.specs.List.{fold, list_all, list_any, zip}
-use Rattle.ptu_messages.specs.declared.header.PortIdentity.{PortIdentity}
-use Rattle.ptu_messages.specs.declared.tlv.Tlv.{Tlv}
+use Rattle.ptu_messages.specs.declared.{header.PortIdentity.{PortIdentity}, tlv.Tlv.{Tlv}}
 use Rattle.ptu_units.specs.declared.client.Client.{Client}
 use Rattle.ptu_trail.specs.declared.cause.Shedding.{Shedding}
-use Rattle.ptu_audit_lines.specs.declared.entry.Decision.{Decision}
 use Rattle.ptu_audit_lines.specs.declared.entry.Decision.TheVariants as decisions
-use Rattle.ptu_audit.specs.declared.line.Said.{Said}
-use Rattle.ptu_audit.specs.declared.line.Said.TheVariants as said
-use Rattle.ptu_audit.specs.declared.{line.Line.{Line}, deed.Act.{Act}, deed.Deed.{Deed}}
+use Rattle.ptu_audit_lines.specs.declared.entry.Decision.{Decision}
 use Rattle.ptu_audit.specs.declared.deed.Deed.TheVariants as deeds
-use Rattle.ptu_audit.specs.Answered.{is_answered_by, tells_of}
+use Rattle.ptu_audit.specs.declared.line.Said.TheVariants as said
+use Rattle.ptu_audit.specs.{declared.line.Said.{Said}, Answered.{is_answered_by, tells_of}}
+use Rattle.ptu_audit.specs.declared.{line.Line.{Line}, deed.Act.{Act}, deed.Deed.{Deed}}
 
 -- the group has this number of a script's line
 abbrev pub is_of_script : List Line → ℕ → Bool

@@ -53,9 +53,7 @@ abbrev pub cause_of_line : LineCause → AuditCause
 cause_of_line lines.Size = causes.Size
 cause_of_line lines.Long = causes.Long
 cause_of_line lines.Text = causes.Text
-cause_of_line lines.Word = causes.Form
-cause_of_line lines.Count = causes.Form
-cause_of_line (lines.Field number) = causes.Form
+cause_of_line _ = causes.Form
 
 unfoldable pub audit_rules : Rules Reading AuditCause
 audit_rules = record {

@@ -1,18 +1,17 @@
 -- The trails of grandmasters, and the first finding of an audit.
-use Rattle.std.specs.Prelude.{ℕ, ◌+◌, ◌==◌, Bool, true, false, List, [], ◌∷◌, ◌++◌, map, Option, Some, None, option_map, flat_map}
-use Rattle.std.specs.{Prelude.{IsSome}, List.{AllByRecursion, count_by, filter, fold}}
-use Rattle.std.specs.Option.{unwrap_or}
+use Rattle.std.specs.Prelude.{ℕ, ◌+◌, ◌==◌, Bool, true, false, List, [], ◌∷◌, ◌++◌, map, Option, Some, None, option_map, flat_map, IsSome}
+use Rattle.std.specs.{List.{AllByRecursion, count_by, filter, fold}, Option.{unwrap_or}}
 use Rattle.ptu_units.specs.Counts.{counted}
 use Rattle.ptu_history.specs.History as history
 use Rattle.ptu_history.specs.History.{Record}
-use Rattle.ptu_trail.specs.declared.cause.Fault.{Fault}
 use Rattle.ptu_trail.specs.declared.cause.NoCause.TheVariants as causes
+use Rattle.ptu_trail.specs.declared.cause.Fault.{Fault}
 use Rattle.ptu_trail.specs.Faults.{IsFaultless, first_fault, message_to, record_of}
-use Rattle.ptu_audit.specs.declared.answer.Answer.{Answer}
-use Rattle.ptu_audit.specs.declared.answer.Answer.TheVariants as answers
-use Rattle.ptu_audit.specs.declared.{line.Line.{Line}, deed.Act.{Act}, deed.Deed.{Deed}}
 use Rattle.ptu_audit.specs.declared.deed.Deed.TheVariants as deeds
-use Rattle.ptu_audit.specs.{declared.deed.Finding.{Finding}, Groups.{acts_of, groups_of}}
+use Rattle.ptu_audit.specs.declared.answer.Answer.TheVariants as answers
+use Rattle.ptu_audit.specs.declared.{answer.Answer.{Answer}, deed.Act.{Act}, deed.Finding.{Finding}}
+use Rattle.ptu_audit.specs.{declared.line.Line.{Line}, Groups.{acts_of, groups_of}}
+use Rattle.ptu_audit.specs.declared.deed.Deed.{Deed}
 
 -- the records that are added to a trail
 abbrev pub records_of : List Record → Deed → List Record

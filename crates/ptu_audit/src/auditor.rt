@@ -4,11 +4,10 @@ ghost use Rattle.std.specs.Prelude.{◌≡◌, ◌++◌, ◌∷◌, [], ℕ, IfO
 ghost use Rattle.std.specs.{Prelude.{Some, true, false}, Option.{unwrap_or}};
 ghost use Rattle.ptu_report.specs.Rules.{IsOutcome};
 ghost use Rattle.ptu_audit.specs.{declared.line.Line.{Line}, declared.deed.Act.{Act}};
-ghost use Rattle.ptu_audit.specs.Groups.{acts_of as acts_told};
+ghost use Rattle.ptu_audit.specs.{Groups.{acts_of as acts_told}, Lines.{said_by as said_of}};
 ghost use Rattle.ptu_audit.specs.Reading.{Reading, audit_rules, cause_of_line, is_disordered, line_read, first_reading, with_entry};
 ghost use Rattle.ptu_audit.specs.Standing.{AreKept, HasAdded, HasClosed, StandsFor};
 ghost use Rattle.ptu_audit.specs.Trails.{audit_answer_of, as_counted, first_line, group_finding};
-ghost use Rattle.ptu_audit.specs.Lines.{said_by as said_of};
 ghost use Rattle.ptu_audit_lines.specs.declared.entry.ReportLine.TheVariants as report;
 
 use crate::answer::{Answer, AuditCause};

@@ -1,32 +1,30 @@
 -- What is left of each client and kind after a whole turn, a Delay_Req and a whole change of capacity.
 use Rattle.std.proofs.Common.{◌≡◌, ◌∙◌, ℕ, ◌+◌, ◌%◌, ◌<◌, ◌≤◌, max, ◌++◌, List, [], ◌∷◌, map, reverse, Bool, true, false, not, ◌&&◌, ◌||◌, cond, eqb, leb, ltb, refl, sym, ap, subst, arith, append_assoc, Some, ℤ, pos, length}
-use Rattle.std.specs.List.{All, AllPairs, Contains, filter, find, list_any}
-use Rattle.std.specs.Option.{option_map_or}
 use Rattle.std.proofs.lemmas.Bool.{and_from, and_left, and_parts, and_right, le-leb, lt-leb, or_parts}
 use Rattle.std.proofs.lemmas.{List.{append-nil}, List.Elements.{All-cons, All-nil, filter_agree}}
 use Rattle.std.proofs.Math.Bool.{or-false}
+use Rattle.std.specs.List.{All, AllPairs, Contains, filter, find, list_any}
+use Rattle.std.specs.Option.{option_map_or}
 use Rattle.ptu_units.specs.declared.kind.{Kind.{Kind}, Kind.TheVariants.{Announce, Sync, DelayResp}}
 use Rattle.ptu_units.specs.{declared.client.Client.{Client}, Client.{same_lease, table_of}}
 use Rattle.ptu_history.specs.History.{Record, Capacity, Ended, Granted, Looked, Sent, Shed, capacity_in_force, concerns, decides, is_change, is_decision, lease_records, moment_of}
-use Rattle.ptu_history.specs.Moments.{table_moment}
+use Rattle.ptu_history.specs.{Moments.{table_moment}, Events.{Answered, NoGrant, TooSoon}}
 use Rattle.ptu_history.specs.Live.{Grant, IsDistinctByLease, is_live, is_of, last_decision, live, standing}
 use Rattle.ptu_history.specs.Runs.{chain, continues, first_of_run, follows, root, sent_in_chain, sent_in_run, sequence_number}
 use Rattle.ptu_history.specs.Lawful.{earliest, earliest_of, last_period, lawful}
-use Rattle.ptu_history.specs.Events.{Answered, NoGrant, TooSoon}
 use Rattle.ptu_history.specs.Turns.{due_grants, is_turned, sends, sent_record}
 use Rattle.ptu_history.specs.Shedding.{shed_grants, shed_order, shed_prefix, shed_record}
 use Rattle.ptu_history.specs.Step.{answer_records, delay_answer}
 use Rattle.ptu_history.proofs.Alike.{chain-alike, earliest-alike, last_decision-alike, last_period-alike, root-alike, sequence_number-alike}
 use Rattle.ptu_history.proofs.Capacities.{capacity_in_force-append, capacity_in_force-unchanged}
 use Rattle.ptu_history.proofs.Currents.{is_decided, standing-append, standing-undecided}
-use Rattle.ptu_units.proofs.Keys.{same_lease-refl, same_lease-true}
 use Rattle.ptu_history.proofs.LeaseRecords.{lease_records-append, lease_records-push_own}
-use Rattle.ptu_history.proofs.{LiveGrants.{LiveGrant, live-grant}}
+use Rattle.ptu_history.proofs.{LiveGrants.{LiveGrant, live-grant}, Moments.{table_moment-looked}}
 use Rattle.ptu_history.proofs.Members.{Differ, any_member, member_any, none_other, pairs_first, pairs_front, pairs_rest, same_test}
-use Rattle.ptu_history.proofs.{Moments.{table_moment-looked}, Order.{shed_prefix-rest}}
+use Rattle.ptu_history.proofs.{Order.{shed_prefix-rest}, Standing.{last_pushed}}
 use Rattle.ptu_history.proofs.Orders.{due_grants-distinct, due_grants-members, shed_order-distinct}
 use Rattle.ptu_history.proofs.Renewals.{earliest_delay, earliest_sent, sequence_sent}
-use Rattle.ptu_history.proofs.Standing.{last_pushed}
+use Rattle.ptu_units.proofs.Keys.{same_lease-refl, same_lease-true}
 
 -- after one message
 module _ (history : List Record) (x : ℕ) (c : Client) (k : Kind) where
@@ -184,9 +182,8 @@ unfolding delay_answer
 answer_records-is history x c = at (lawful history x c DelayResp) (live history x c DelayResp)
   where
     at : (a b : Bool) → answer_records x c (cond a Answered (cond b (TooSoon (earliest history c DelayResp)) NoGrant)) ≡ cond a (Sent x c DelayResp ∷ []) []
-    at true b = refl
     at false true = refl
-    at false false = refl
+    at _ _ = refl
 
 answered_as : (x : ℕ) (c : Client) (b : Bool) → cond b (Sent x c DelayResp ∷ []) [] ≡ map (sent_record x) (answered_grants c b)
 unfolding answered_grants asked_grant

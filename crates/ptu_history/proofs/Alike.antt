@@ -1,19 +1,14 @@
 -- Where the same concerns a client and kind in two histories, all that is said of them is the same.
-use Rattle.std.proofs.Common.{◌≡◌, ℕ, List}
+use Rattle.std.proofs.Common.{◌≡◌, List}
 use Rattle.ptu_units.specs.declared.{client.Client.{Client}, kind.Kind.{Kind}}
-use Rattle.ptu_history.specs.History.{Record, lease_records}
-use Rattle.ptu_history.specs.Live.{last_decision, live}
+use Rattle.ptu_history.specs.{History.{Record, lease_records}, Lawful.{earliest, last_period}}
+use Rattle.ptu_history.specs.Live.{last_decision}
 use Rattle.ptu_history.specs.Runs.{chain, root, sent_in_chain, sequence_number}
-use Rattle.ptu_history.specs.Lawful.{earliest, last_period, lawful}
 
 module _ (one other : List Record) (c : Client) (k : Kind) (same : lease_records one c k ≡ lease_records other c k) where
   pub last_decision-alike : last_decision one c k ≡ last_decision other c k
   unfolding last_decision
   last_decision-alike = rw same
-
-  pub live-alike : (x : ℕ) → live one x c k ≡ live other x c k
-  unfolding live last_decision
-  live-alike x = rw same
 
   pub last_period-alike : last_period one c k ≡ last_period other c k
   unfolding last_period
@@ -34,7 +29,3 @@ module _ (one other : List Record) (c : Client) (k : Kind) (same : lease_records
   pub sequence_number-alike : sequence_number one c k ≡ sequence_number other c k
   unfolding sequence_number
   sequence_number-alike = rw same
-
-  pub lawful-alike : (x : ℕ) → lawful one x c k ≡ lawful other x c k
-  unfolding lawful live last_decision earliest last_period chain sent_in_chain
-  lawful-alike x = rw same

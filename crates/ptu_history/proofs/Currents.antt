@@ -6,7 +6,7 @@ use Rattle.std.proofs.lemmas.List.{Elements.{filter_agree}, Folds.{list_any-appe
 use Rattle.std.proofs.Math.Bool.{or-false}
 use Rattle.ptu_units.specs.declared.kind.Kind.{Kind}
 use Rattle.ptu_units.specs.{declared.client.Client.{Client}, Client.{same_lease}}
-use Rattle.ptu_history.specs.History.{Record, Granted, Short, Ended, Capacity, Shed, Looked, Sent, concerns, decides, is_decision, lease_records}
+use Rattle.ptu_history.specs.History.{Record, Granted, Ended, Shed, concerns, decides, is_decision, lease_records}
 use Rattle.ptu_history.specs.Live.{Grant, is_live, is_live_of, last_decision, live, standing, without}
 use Rattle.ptu_units.proofs.Keys.{same_lease-true, same_lease-sym}
 use Rattle.ptu_history.proofs.Lists.{by_push, filter-all, list_any-filter, list_any-filter_none}
@@ -68,12 +68,9 @@ standing_all history r other none =
 pub standing-undecided : (history : List Record) (r : Record) → is_decision r ≡ false → standing (history ++ r ∷ []) ≡ standing history
 unfolding standing
 standing-undecided history (Granted n c k l u) other = absurd (true≢false other)
-standing-undecided history (Short n c) other = standing_all history (Short n c) other refl
 standing-undecided history (Ended n c k) other = absurd (true≢false other)
-standing-undecided history (Capacity x capacity) other = standing_all history (Capacity x capacity) other refl
 standing-undecided history (Shed x c k) other = absurd (true≢false other)
-standing-undecided history (Looked x j) other = standing_all history (Looked x j) other refl
-standing-undecided history (Sent x c k) other = standing_all history (Sent x c k) other refl
+standing-undecided history r other = standing_all history r other refl
 
 live_one : (x : ℕ) (c : Client) (k : Kind) (r : Record) → decides c k r ≡ true → is_live x (Some r) ≡ list_any (is_live_of x c k) (standing (r ∷ []))
 unfolding standing

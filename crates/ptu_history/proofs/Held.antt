@@ -6,7 +6,7 @@ use Rattle.std.proofs.lemmas.{List.{append-nil}, List.Elements.{filter-append}}
 use Rattle.std.proofs.lemmas.List.{Folds.{find-append}, Sums.{sum_by-cons}}
 use Rattle.ptu_units.specs.{declared.kind.Kind.{Kind}, Log.{rate_of}}
 use Rattle.ptu_units.specs.declared.client.Client.{Client}
-use Rattle.ptu_history.specs.History.{Record, Granted, Short, Ended, Capacity, Shed, Looked, Sent, concerns, decides, is_decision, moment_of, capacity_in_force, is_change}
+use Rattle.ptu_history.specs.History.{Record, Granted, Capacity, Looked, Sent, concerns, decides, is_decision, moment_of, capacity_in_force, is_change}
 use Rattle.ptu_history.specs.Moments.{book_moment, book_part, greatest_by}
 use Rattle.ptu_history.specs.{Live.{Grant, live_grants, standing}, Verdict.{rate_sum}}
 use Rattle.ptu_history.proofs.Capacities.{capacity_in_force-unchanged}
@@ -45,11 +45,7 @@ live_sum-cons x g gs = at (ltb x g.until)
 decision_part : (c : Client) (k : Kind) (r : Record) → decides c k r ≡ true → moment_of r ≤ book_part r
 decision_part c k (Looked x j) own = absurd (false≢true own)
 decision_part c k (Sent x c' k') own = absurd (false≢true own)
-decision_part c k (Granted n c' k' l u) own = omega arith
-decision_part c k (Short n c') own = omega arith
-decision_part c k (Ended n c' k') own = omega arith
-decision_part c k (Capacity n capacity) own = omega arith
-decision_part c k (Shed n c' k') own = omega arith
+decision_part c k _ own = omega arith
 
 -- a decision that is found is there, and is not after the last one
 found : (c : Client) (k : Kind) (history : List Record) (r : Record) → find (decides c k) history ≡ Some r → (list_any (decides c k) history ≡ true) × (moment_of r ≤ greatest_by book_part history)
@@ -106,12 +102,7 @@ sum_now x (Granted n c k l u ∷ history) past =
     at : (b : Bool) → cond b 0 (cond (ltb x u) (rate_of l) 0) + live_sum x (standing history) ≡ live_sum x (cond b (standing history) (this ∷ standing history))
     at true = omega arith
     at false = sym (live_sum-cons x this (standing history))
-sum_now x (Short n c ∷ history) past = sum_now x history (omega arith)
-sum_now x (Ended n c k ∷ history) past = sum_now x history (omega arith)
-sum_now x (Capacity n capacity ∷ history) past = sum_now x history (omega arith)
-sum_now x (Shed n c k ∷ history) past = sum_now x history (omega arith)
-sum_now x (Looked n j ∷ history) past = sum_now x history (omega arith)
-sum_now x (Sent n c k ∷ history) past = sum_now x history (omega arith)
+sum_now x (r ∷ history) past = sum_now x history (omega arith)
 
 -- from the last decision on, what is held is what is live
 pub held-now : (history : List Record) (x : ℕ) → book_moment history ≤ x → held history x ≡ rate_sum (live_grants history x)
@@ -141,23 +132,13 @@ unfolding terms held_terms
 sum_before x [] (Granted n c k l u) before =
     held_terms-cons x (record { client = c; kind = k; log = l; start = n; end = u }) []
     ∙ ap (λ b. cond b (rate_of l) 0 + 0) (and_left (leb n x) (ltb x u) (lt-leb n x before))
-sum_before x [] (Short n c) before = refl
-sum_before x [] (Ended n c k) before = refl
-sum_before x [] (Capacity n capacity) before = refl
-sum_before x [] (Shed n c k) before = refl
-sum_before x [] (Looked n j) before = refl
-sum_before x [] (Sent n c k) before = refl
+sum_before x [] r before = refl
 sum_before x (Granted n c k l u ∷ history) r before =
     held_terms-cons x (record { client = c; kind = k; log = l; start = n; end = end_of u (find (decides c k) (history ++ r ∷ [])) }) (terms (history ++ r ∷ []))
     ∙ ap (λ part. part + held_terms x (terms (history ++ r ∷ []))) (part_before x c k history r n u (rate_of l) before)
     ∙ ap (λ sum. cond (leb n x && ltb x (end_of u (find (decides c k) history))) (rate_of l) 0 + sum) (sum_before x history r before)
     ∙ sym (held_terms-cons x (record { client = c; kind = k; log = l; start = n; end = end_of u (find (decides c k) history) }) (terms history))
-sum_before x (Short n c ∷ history) r before = sum_before x history r before
-sum_before x (Ended n c k ∷ history) r before = sum_before x history r before
-sum_before x (Capacity n capacity ∷ history) r before = sum_before x history r before
-sum_before x (Shed n c k ∷ history) r before = sum_before x history r before
-sum_before x (Looked n j ∷ history) r before = sum_before x history r before
-sum_before x (Sent n c k ∷ history) r before = sum_before x history r before
+sum_before x (s ∷ history) r before = sum_before x history r before
 
 -- what was held before a new record stays
 pub held-before : (history : List Record) (r : Record) (x : ℕ) → x < moment_of r → held (history ++ r ∷ []) x ≡ held history x
@@ -169,12 +150,7 @@ skipped : (opening : ℕ) (r : Record) (rest : List Record) (b : Bool) → is_ch
 unfolding capacity_in_force
 skipped opening r rest false other = refl
 skipped opening (Capacity n capacity) rest true other = absurd (true≢false other)
-skipped opening (Granted n c k l u) rest true other = refl
-skipped opening (Short n c) rest true other = refl
-skipped opening (Ended n c k) rest true other = refl
-skipped opening (Shed n c k) rest true other = refl
-skipped opening (Looked n j) rest true other = refl
-skipped opening (Sent n c k) rest true other = refl
+skipped opening _ rest true other = refl
 
 force_kept : (x opening : ℕ) (history : List Record) → greatest_by book_part history ≤ x → capacity_in_force opening (filter (is_by x) history) ≡ capacity_in_force opening history
 unfolding capacity_in_force
@@ -183,11 +159,7 @@ force_kept x opening (Capacity n capacity ∷ history) past =
     ap (λ b. capacity_in_force opening (cond b (Capacity n capacity ∷ filter (is_by x) history) (filter (is_by x) history))) (le-leb n x (omega arith))
     ∙ force_kept x capacity history (omega arith)
 force_kept x opening (Granted n c k l u ∷ history) past = skipped opening (Granted n c k l u) (filter (is_by x) history) (leb n x) refl ∙ force_kept x opening history (omega arith)
-force_kept x opening (Short n c ∷ history) past = skipped opening (Short n c) (filter (is_by x) history) (leb n x) refl ∙ force_kept x opening history (omega arith)
-force_kept x opening (Ended n c k ∷ history) past = skipped opening (Ended n c k) (filter (is_by x) history) (leb n x) refl ∙ force_kept x opening history (omega arith)
-force_kept x opening (Shed n c k ∷ history) past = skipped opening (Shed n c k) (filter (is_by x) history) (leb n x) refl ∙ force_kept x opening history (omega arith)
-force_kept x opening (Looked n j ∷ history) past = skipped opening (Looked n j) (filter (is_by x) history) (leb n x) refl ∙ force_kept x opening history (omega arith)
-force_kept x opening (Sent n c k ∷ history) past = skipped opening (Sent n c k) (filter (is_by x) history) (leb n x) refl ∙ force_kept x opening history (omega arith)
+force_kept x opening (r ∷ history) past = skipped opening r (filter (is_by x) history) (leb (moment_of r) x) refl ∙ force_kept x opening history (omega arith)
 
 -- from the last decision on, the force is the capacity in force
 pub force-now : (opening : ℕ) (history : List Record) (x : ℕ) → book_moment history ≤ x → force opening history x ≡ capacity_in_force opening history
@@ -206,12 +178,7 @@ force-before opening history r x before =
 terms-one : (r : Record) → is_decision r ≡ false → terms (r ∷ []) ≡ []
 unfolding terms
 terms-one (Granted n c k l u) quiet = absurd (true≢false quiet)
-terms-one (Short n c) quiet = refl
-terms-one (Ended n c k) quiet = refl
-terms-one (Capacity n capacity) quiet = refl
-terms-one (Shed n c k) quiet = refl
-terms-one (Looked n j) quiet = refl
-terms-one (Sent n c k) quiet = refl
+terms-one _ quiet = refl
 
 find-quiet : (c : Client) (k : Kind) (history : List Record) (r : Record) → is_decision r ≡ false → find (decides c k) (history ++ r ∷ []) ≡ find (decides c k) history
 find-quiet c k history r quiet =

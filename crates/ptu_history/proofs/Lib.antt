@@ -22,3 +22,4 @@ pub mod Counts
 pub mod PaymentLists
 pub mod Histories
 pub mod Runs
+pub mod OnLiterals

@@ -1,7 +1,7 @@
 -- Filters, tests and greatest values of lists.
-use Rattle.std.proofs.Common.{◌≡◌, ℕ, ◌≤◌, max, ◌++◌, List, [], ◌∷◌, Bool, true, false, ◌||◌, refl, sym, ap, subst, map, arith, append_assoc}
-use Rattle.std.specs.List.{filter, list_any}
+use Rattle.std.proofs.Common.{◌≡◌, ℕ, ◌≤◌, max, ◌++◌, List, [], ◌∷◌, Bool, true, false, refl, sym, ap, subst, map, arith, append_assoc}
 use Rattle.std.proofs.lemmas.List.{append-nil}
+use Rattle.std.specs.List.{filter, list_any}
 use Rattle.ptu_history.specs.Moments.{greatest_by}
 
 -- an induction by what stands at the end

@@ -3,8 +3,8 @@ use Rattle.std.proofs.Common.{◌≡◌, ◌∙◌, ℕ, ◌<◌, ◌++◌, List
 use Rattle.std.proofs.lemmas.{Bool.{and_parts, false≢true, ltb-true}, Bool.Decides.{Decides-int_eq}}
 use Rattle.std.specs.Ordering.{int_eq}
 use Rattle.ptu_units.specs.declared.{client.Client.{Client}, kind.Kind.{Kind}}
-use Rattle.ptu_history.specs.History.{Record, Granted, Short, Ended, Capacity, Shed, Looked, Sent, decides, lease_records}
-use Rattle.ptu_history.specs.{Live.{is_live, last_decision, live}, Runs.{continues}}
+use Rattle.ptu_history.specs.{History.{Record, Granted, decides, lease_records}, Runs.{continues}}
+use Rattle.ptu_history.specs.Live.{is_live, last_decision, live}
 use Rattle.ptu_units.proofs.Keys.{same_lease-true}
 use Rattle.ptu_history.proofs.{Lists.{by_push}, Standing.{last_pushed}}
 

@@ -1,16 +1,13 @@
 -- The moments after one more step, and that no step goes back.
 use Rattle.std.proofs.Common.{◌≡◌, ◌∙◌, ℕ, ◌<◌, ◌≤◌, max, ◌++◌, List, [], ◌∷◌, Bool, true, false, ◌||◌, cond, eqb, leb, refl, sym, ap, subst, map, arith}
-use Rattle.std.specs.List.{All, Contains, list_any}
 use Rattle.std.proofs.lemmas.Bool.{false≢true, leb-false, leb-true}
 use Rattle.std.proofs.lemmas.List.Elements.{All-cons, All-head, All-nil, All-tail, All-weaker, Contains-append_right}
+use Rattle.std.specs.List.{All, Contains, list_any}
 use Rattle.ptu_units.specs.{declared.client.Client.{Client}, Client.{table_of}}
-use Rattle.ptu_history.specs.History.{Record, Capacity, Looked, moment_of}
-use Rattle.ptu_history.specs.Live.{Grant}
+use Rattle.ptu_history.specs.{History.{Record, Capacity, Looked, moment_of}, Shedding.{shed_record}}
+use Rattle.ptu_history.specs.{Live.{Grant}, Turns.{sent_record}, Step.{answer_records}}
 use Rattle.ptu_history.specs.Moments.{IsGreatest, greatest_by, book_part, table_part, is_of_table, book_moment, table_moment}
-use Rattle.ptu_history.specs.{Turns.{sent_record}, Shedding.{shed_record}}
-use Rattle.ptu_history.specs.Core.{table_step_moment, book_step_moment}
-use Rattle.ptu_history.specs.Step.{answer_records}
-use Rattle.ptu_history.specs.Events.{Answer, Answered, NoGrant, TooSoon}
+use Rattle.ptu_history.specs.{Core.{table_step_moment, book_step_moment}, Events.{Answer, Answered}}
 use Rattle.ptu_history.proofs.Lists.{greatest_by-append, greatest_by-push, greatest_by-map-le}
 
 pub book_moment-push : (history : List Record) (r : Record) → book_moment (history ++ r ∷ []) ≡ max (book_moment history) (book_part r)
@@ -113,9 +110,8 @@ table_records x j to at p is (a ∷ xs) =
   where
     one : (b d : Bool) → max (cond b x 0) (cond d x 0) ≡ cond (b || d) x 0
     one true true = omega arith
-    one true false = omega arith
     one false true = omega arith
-    one false false = omega arith
+    one _ _ = omega arith
 
 pub table_moment-sheds : (history : List Record) (x capacity j : ℕ) (gs : List Grant) → table_moment (history ++ Capacity x capacity ∷ map (shed_record x) gs) j ≡ max (table_moment history j) (cond (list_any (λ g. eqb (table_of g.client) j) gs) x 0)
 unfolding table_moment
@@ -160,5 +156,4 @@ table_part-le j r = at (is_of_table j r)
 -- no record of an answer to a Delay_Req counts for the book
 pub answer_looked : (x : ℕ) (c : Client) (answer : Answer) → greatest_by book_part (Looked x (table_of c) ∷ answer_records x c answer) ≡ 0
 answer_looked x c Answered = refl
-answer_looked x c NoGrant = refl
-answer_looked x c (TooSoon earliest) = refl
+answer_looked x c _ = refl

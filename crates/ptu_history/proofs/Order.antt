@@ -1,19 +1,18 @@
 -- What stands in a list put in order, and what is shed.
 use Rattle.std.proofs.Common.{◌≡◌, ℕ, ◌+◌, ◌<◌, ◌≤◌, ◌++◌, List, [], ◌∷◌, length, Bool, true, false, cond, leb, refl, ap, subst, get_or, zero, suc, arith}
-use Rattle.std.specs.List.Sorted.{IsPermutation, IsSorted}
 use Rattle.std.proofs.lemmas.Bool.{leb-true, le-leb, false≢true}
 use Rattle.std.proofs.lemmas.List.Sorted.{IsPermutation-refl, IsPermutation-cons, IsPermutation-trans, IsPermutation-middle, IsPermutation-sym}
 use Rattle.std.proofs.lemmas.Cmp.{nat_cmp_total, on_total, then_total, back_total}
-use Rattle.std.specs.{Cmp.{IsTotalOrder}, Ordering.{is_lt, ordering_reverse}}
+use Rattle.std.specs.{List.Sorted.{IsPermutation, IsSorted}, Ordering.{is_lt, ordering_reverse}}
+use Rattle.std.specs.Cmp.{IsTotalOrder}
 use Rattle.std.specs.declared.cmp.{Ordering.{Ordering}, Ordering.TheVariants.{Less, Equal, Greater}}
+use Rattle.ptu_units.specs.contracts.kind.KindOrd.TheImpl as kinds
 use Rattle.ptu_units.specs.declared.client.Client.{Client}
 use Rattle.ptu_units.specs.Client.{client_cmp, kind_cmp, kind_place}
-use Rattle.ptu_history.specs.History.{Record}
-use Rattle.ptu_history.specs.{Live.{Grant}, Lawful.{earliest}, Order.{in_order, insert_in_order}}
-use Rattle.ptu_history.specs.{Verdict.{rate_sum}, Turns.{turn_cmp}}
-use Rattle.ptu_history.specs.Shedding.{shed_prefix, shed_cmp}
 use Rattle.ptu_units.specs.declared.kind.{Kind.{Kind}, Kind.TheVariants.{Announce, Sync, DelayResp}}
-use Rattle.ptu_units.specs.contracts.kind.KindOrd.TheImpl as kinds
+use Rattle.ptu_history.specs.{History.{Record}, Live.{Grant}, Lawful.{earliest}, Verdict.{rate_sum}}
+use Rattle.ptu_history.specs.{Order.{in_order, insert_in_order}, Shedding.{shed_prefix, shed_cmp}}
+use Rattle.ptu_history.specs.Turns.{turn_cmp}
 
 -- the rest fits
 pub shed_prefix-rest : (capacity : ℕ) (grants : List Grant) → (rest : List Grant) × (shed_prefix capacity grants ++ rest ≡ grants) × (rate_sum rest ≤ capacity)
@@ -126,11 +125,6 @@ shed_cmp-total =
 -- the derived order of kinds
 pub kind_cmp_is : (j k : Kind) → kinds.cmp-value.it j k ≡ kind_cmp j k
 kind_cmp_is Announce Announce = refl
-kind_cmp_is Announce Sync = refl
-kind_cmp_is Announce DelayResp = refl
 kind_cmp_is Sync Announce = refl
-kind_cmp_is Sync Sync = refl
-kind_cmp_is Sync DelayResp = refl
 kind_cmp_is DelayResp Announce = refl
-kind_cmp_is DelayResp Sync = refl
-kind_cmp_is DelayResp DelayResp = refl
+kind_cmp_is _ _ = refl

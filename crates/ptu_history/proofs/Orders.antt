@@ -1,19 +1,18 @@
 -- The orders of a turn and of a shedding, by their members.
 use Rattle.std.proofs.Common.{◌≡◌, ◌≢◌, ◌∙◌, ◌↔◌, ℕ, ◌<◌, List, Bool, true, false, ◌&&◌, cond, eqb, ltb, leb, refl, sym, ap, get_or}
-use Rattle.std.specs.{List.{All, Contains, filter}, List.Sorted.{IsSorted}, Cmp.{IsTotalOrder}}
-use Rattle.std.specs.{Ordering.{nat_cmp, ordering_then}, declared.cmp.Ordering.{Ordering}}
-use Rattle.std.specs.declared.cmp.Ordering.TheVariants.{Less, Equal, Greater}
 use Rattle.std.proofs.lemmas.Bool.{and_from, and_parts, eq-eqb, eqb-true, false≢true, lt-ltb, ltb-true, true≢false}
 use Rattle.std.proofs.lemmas.List.{Elements.{All-contains, Contains-get_or}, Kept.{AllPairs-filter}}
 use Rattle.std.proofs.lemmas.List.Sorted.{Contains-permutation, IsPermutation-sym}
-use Rattle.ptu_units.specs.declared.kind.{Kind.{Kind}, Kind.TheVariants.{Announce, Sync, DelayResp}}
-use Rattle.ptu_units.specs.declared.client.Client.{Client}
+use Rattle.std.specs.{List.{All, Contains, filter}, Ordering.{nat_cmp, ordering_then}}
+use Rattle.std.specs.{List.Sorted.{IsSorted}, Cmp.{IsTotalOrder}}
+use Rattle.std.specs.declared.cmp.{Ordering.{Ordering}, Ordering.TheVariants.{Less, Equal, Greater}}
+use Rattle.ptu_units.specs.declared.kind.Kind.{Kind}
+use Rattle.ptu_units.specs.declared.{kind.Kind.TheVariants.{DelayResp}, client.Client.{Client}}
 use Rattle.ptu_units.specs.Client.{client_cmp, kind_cmp, kind_place, same_client, same_kind, same_lease, table_of}
-use Rattle.ptu_history.specs.{Order.{in_order}, History.{Record}}
+use Rattle.ptu_history.specs.{Order.{in_order}, Turns.{due_grants, is_due, is_turned, turn_cmp}}
+use Rattle.ptu_history.specs.History.{Record}
 use Rattle.ptu_history.specs.Live.{Grant, IsDistinctByLease, IsLastDecision, is_live, live, live_grants, standing}
-use Rattle.ptu_history.specs.Lawful.{earliest, lawful}
-use Rattle.ptu_history.specs.Turns.{due_grants, is_due, is_turned, turn_cmp}
-use Rattle.ptu_history.specs.Shedding.{shed_cmp, shed_order}
+use Rattle.ptu_history.specs.{Lawful.{earliest, lawful}, Shedding.{shed_cmp, shed_order}}
 use Rattle.ptu_units.proofs.Keys.{same_lease-sym}
 use Rattle.ptu_history.proofs.Order.{IsAsymmetric-total, IsPermutation-in_order, IsSorted-in_order, shed_cmp-total, turn_cmp-total}
 use Rattle.ptu_history.proofs.Standing.{Contains-filter, standing-distinct, standing-last, standing-member}
@@ -47,14 +46,12 @@ pub nat_tie : (a b : ℕ) → nat_cmp a b ≡ Equal → eqb a b ≡ true
 nat_tie a b e = at (ltb a b) (eqb a b) e
   where
     at : (s t : Bool) → cond s Less (cond t Equal Greater) ≡ Equal → t ≡ true
-    at true t e = absurd (cc)
     at false true e = refl
-    at false false e = absurd (cc)
+    at _ _ e = absurd (cc)
 
 pub then_parts : (a b : Ordering) → ordering_then a b ≡ Equal → (a ≡ Equal) × (b ≡ Equal)
-then_parts Less b e = absurd (cc)
 then_parts Equal b e = (refl, e)
-then_parts Greater b e = absurd (cc)
+then_parts _ b e = absurd (cc)
 
 client_tie : (a b : Client) → client_cmp a b ≡ Equal → same_client a b ≡ true
 client_tie a b e =
@@ -155,9 +152,8 @@ due_grants-table history x j = λ i d lt.
     eqb-true (table_of g.client) j (and_parts (is_turned g.kind) (eqb (table_of g.client) j) (and_parts (is_turned g.kind && eqb (table_of g.client) j) (lawful history x g.client g.kind) due).0).1
 
 turned_kind : (k : Kind) → (is_turned k ≡ true) ↔ (k ≢ DelayResp)
-turned_kind Announce = (λ e h. absurd (cc), λ _. refl)
-turned_kind Sync = (λ e h. absurd (cc), λ _. refl)
 turned_kind DelayResp = (λ e _. false≢true e, λ differ. absurd (differ refl))
+turned_kind _ = (λ e h. absurd (cc), λ _. refl)
 
 pub is_due-parts : (history : List Record) (x j : ℕ) (g : Grant) → (is_due history x j g ≡ true) ↔ ((g.kind ≢ DelayResp) × (table_of g.client ≡ j) × (lawful history x g.client g.kind ≡ true))
 is_due-parts history x j g = (

@@ -3,7 +3,7 @@ use Rattle.std.proofs.Common.{◌≡◌, ◌∙◌, ℕ, ◌++◌, List, [], ◌
 use Rattle.std.specs.List.{filter}
 use Rattle.std.proofs.lemmas.{Bool.{true≢false}, List.{append-nil}}
 use Rattle.ptu_units.specs.declared.{client.Client.{Client}, kind.Kind.{Kind}}
-use Rattle.ptu_history.specs.History.{Record, Granted, Short, Ended, Capacity, Shed, Looked, Sent, is_sent}
+use Rattle.ptu_history.specs.History.{Record, Granted, Sent, is_sent}
 use Rattle.ptu_history.specs.Held.{Payment, payment, payments, payments_after}
 
 pub payments_after-append : (before xs ys : List Record) → payments_after before (xs ++ ys) ≡ payments_after before xs ++ payments_after (before ++ xs) ys
@@ -26,13 +26,8 @@ payments-sent history x c k = payments_after-append [] history (Sent x c k ∷ [
 
 pub payments-none : (history : List Record) (r : Record) → is_sent r ≡ false → payments (history ++ r ∷ []) ≡ payments history
 unfolding payments_after
-payments-none history (Granted n c k l u) other = payments-other history (Granted n c k l u) refl
-payments-none history (Short n c) other = payments-other history (Short n c) refl
-payments-none history (Ended n c k) other = payments-other history (Ended n c k) refl
-payments-none history (Capacity n capacity) other = payments-other history (Capacity n capacity) refl
-payments-none history (Shed n c k) other = payments-other history (Shed n c k) refl
-payments-none history (Looked n j) other = payments-other history (Looked n j) refl
 payments-none history (Sent n c k) other = absurd (true≢false other)
+payments-none history r other = payments-other history r refl
 
 -- the message that made the payment
 message_paid : Payment → Record

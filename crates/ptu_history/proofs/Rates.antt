@@ -1,26 +1,21 @@
 -- The rates of the live grants, as sums of parts.
-use Rattle.std.proofs.Common.{◌≡◌, ◌∙◌, ℕ, zero, suc, ◌+◌, ◌%◌, ◌<◌, ◌≤◌, ◌++◌, List, [], ◌∷◌, map, get_or, Bool, true, false, not, cond, eqb, ltb, refl, sym, ap, subst, arith, Option, Some, None, ℤ}
-use Rattle.std.specs.List.{All, AllPairs, filter, list_any, sum_by}
+use Rattle.std.proofs.Common.{◌≡◌, ◌∙◌, ℕ, zero, suc, ◌+◌, ◌%◌, ◌<◌, ◌≤◌, ◌++◌, List, [], ◌∷◌, map, get_or, Bool, true, false, not, cond, eqb, ltb, refl, sym, ap, subst, arith, Option, Some, ℤ}
 use Rattle.std.proofs.lemmas.{Bool.{lt-ltb, or_from, or_left, or_right}, Nat.{mod_below}}
 use Rattle.std.proofs.lemmas.List.Elements.{All-cons, All-head, All-nil, All-tail, All-weaker}
 use Rattle.std.proofs.lemmas.List.{Sorted.{sum_by-IsPermutation}, Sums.{sum_by-append, sum_by-cons}}
-use Rattle.ptu_units.specs.{declared.kind.Kind.{Kind}, Log.{rate_of}}
-use Rattle.ptu_units.specs.{declared.client.Client.{Client}, Client.{table_of}}
-use Rattle.ptu_history.specs.History.{Record, Capacity, Granted, Short, Ended, Shed, Looked, Sent}
+use Rattle.std.specs.List.{All, AllPairs, filter, list_any, sum_by}
+use Rattle.ptu_units.specs.declared.{kind.Kind.{Kind}, client.Client.{Client}}
+use Rattle.ptu_units.specs.{Log.{rate_of}, Client.{table_of}}
+use Rattle.ptu_history.specs.{History.{Record, Capacity, Granted}, Order.{in_order}}
 use Rattle.ptu_history.specs.Live.{Grant, is_live, is_of, last_decision, live, live_grants, standing, without}
 use Rattle.ptu_history.specs.Verdict.{live_rate, others, own_rate, rate_sum, table_rates}
-use Rattle.ptu_history.specs.Shedding.{shed_grants, shed_order, shed_record}
-use Rattle.ptu_history.proofs.{AfterSteps.{standing-resized}, Currents.{live-standing}}
-use Rattle.ptu_units.proofs.Keys.{same_lease-refl, same_lease-sym}
-use Rattle.ptu_history.proofs.Lists.{filter-comm}
-use Rattle.ptu_history.proofs.LiveGrants.{LiveGrant, live-grant}
+use Rattle.ptu_history.specs.Shedding.{shed_grants, shed_order, shed_record, shed_cmp}
+use Rattle.ptu_history.proofs.{AfterSteps.{standing-resized}, LiveGrants.{LiveGrant, live-grant}}
+use Rattle.ptu_history.proofs.{Currents.{live-standing}, Lists.{filter-comm}}
 use Rattle.ptu_history.proofs.Members.{Differ, all_second, any_filtered, filter_none, only_of, pairs_front, pairs_rest}
 use Rattle.ptu_history.proofs.Order.{IsPermutation-in_order, shed_prefix-rest}
 use Rattle.ptu_history.proofs.Orders.{live_distinct, live_members, shed_order-distinct}
-use Rattle.ptu_history.specs.{Order.{in_order}, Shedding.{shed_cmp}}
-
-rate : Grant → ℕ
-rate g = rate_of g.log
+use Rattle.ptu_units.proofs.Keys.{same_lease-refl, same_lease-sym}
 
 -- a sum in two parts
 rates-parts : (p : Grant → Bool) (gs : List Grant) → rate_sum gs ≡ rate_sum (filter (λ g. not (p g)) gs) + rate_sum (filter p gs)
@@ -33,14 +28,8 @@ rates-parts p (g ∷ gs) = at (p g) (rates-parts p gs)
     at false ih = omega (arith, ih, sum_by-cons (λ (g : Grant). rate_of g.log) g gs, sum_by-cons (λ (g : Grant). rate_of g.log) g (filter (λ g. not (p g)) gs))
 
 live_rate-none : (x : ℕ) (d : Option Record) → is_live x d ≡ false → live_rate x d ≡ 0
-live_rate-none x None e = refl
 live_rate-none x (Some (Granted n c k l u)) e = ap (λ b. cond b (rate_of l) 0) e
-live_rate-none x (Some (Short n c)) e = refl
-live_rate-none x (Some (Ended n c k)) e = refl
-live_rate-none x (Some (Capacity n capacity)) e = refl
-live_rate-none x (Some (Shed n c k)) e = refl
-live_rate-none x (Some (Looked n j)) e = refl
-live_rate-none x (Some (Sent n c k)) e = refl
+live_rate-none x _ e = refl
 
 pub own_rate-live : (history : List Record) (n x : ℕ) (c : Client) (k : Kind) (l : ℤ) (u : ℕ) → last_decision history c k ≡ Some (Granted n c k l u) → x < u → own_rate history x c k ≡ rate_of l
 unfolding own_rate

@@ -1,11 +1,11 @@
 -- Chains, earliest moments and sequence numbers after a grant and after a message.
-use Rattle.std.proofs.Common.{◌≡◌, ◌≢◌, ◌∙◌, ℕ, ◌+◌, ◌%◌, ◌<◌, max, ◌++◌, List, [], ◌∷◌, length, Bool, true, false, not, cond, refl, sym, ap, arith, Option, Some, None, ℤ, ltb}
+use Rattle.std.proofs.Common.{◌≡◌, ◌≢◌, ◌∙◌, ℕ, ◌+◌, ◌%◌, ◌<◌, max, ◌++◌, List, [], ◌∷◌, length, Bool, true, false, not, cond, refl, sym, ap, arith, Option, Some, ℤ, ltb}
 use Rattle.std.specs.{List.{find}, Option.{option_map_or}, Ordering.{int_eq}}
 use Rattle.std.proofs.lemmas.Bool.{lt-ltb, and_from, and_right, and_left, false_from_ne_true}
 use Rattle.std.proofs.lemmas.Bool.Decides.{Decides-int_eq}
 use Rattle.ptu_units.specs.declared.kind.{Kind.{Kind}, Kind.TheVariants.{Announce, Sync, DelayResp}}
 use Rattle.ptu_units.specs.{declared.client.Client.{Client}, Log.{period_of}}
-use Rattle.ptu_history.specs.History.{Record, Granted, Short, Ended, Capacity, Shed, Looked, Sent, is_decision, moment_of, lease_records}
+use Rattle.ptu_history.specs.History.{Record, Granted, Ended, Shed, Sent, is_decision, moment_of, lease_records}
 use Rattle.ptu_history.specs.Live.{is_live, last_decision, live}
 use Rattle.ptu_history.specs.Runs.{follows, continues, first_of_run, sent_in_run, root, chain, sequence_number, sent_in_chain}
 use Rattle.ptu_history.specs.Lawful.{earliest, earliest_of, edge_after, last_period, period_of_last}
@@ -17,12 +17,9 @@ use Rattle.ptu_history.proofs.Pacing.{earliest_credited-cons}
 period_of_decision : (rs : List Record) (m : ℕ) (c : Client) (k : Kind) (l : ℤ) (u : ℕ) → find is_decision rs ≡ Some (Granted m c k l u) → period_of_last rs ≡ period_of l
 period_of_decision [] m c k l u e = absurd (cc)
 period_of_decision (Granted n c' k' l' u' ∷ rs) m c k l u e = let same : l' ≡ l = cc in ap period_of same
-period_of_decision (Short n c' ∷ rs) m c k l u e = period_of_decision rs m c k l u e
 period_of_decision (Ended n c' k' ∷ rs) m c k l u e = absurd (cc)
-period_of_decision (Capacity n capacity ∷ rs) m c k l u e = period_of_decision rs m c k l u e
 period_of_decision (Shed n c' k' ∷ rs) m c k l u e = absurd (cc)
-period_of_decision (Looked n j ∷ rs) m c k l u e = period_of_decision rs m c k l u e
-period_of_decision (Sent n c' k' ∷ rs) m c k l u e = period_of_decision rs m c k l u e
+period_of_decision (r ∷ rs) m c k l u e = period_of_decision rs m c k l u e
 
 pub last_period-granted : (history : List Record) (m : ℕ) (c : Client) (k : Kind) (l : ℤ) (u : ℕ) → last_decision history c k ≡ Some (Granted m c k l u) → last_period history c k ≡ period_of l
 unfolding last_period last_decision
@@ -30,9 +27,8 @@ last_period-granted history m c k l u e = period_of_decision (lease_records hist
 
 -- a grant that does not follow on does not continue a chain
 not_continues : (n : ℕ) (c : Client) (k : Kind) (l : ℤ) (u : ℕ) (d : Option Record) → is_live n d ≡ false → continues (Granted n c k l u) d ≡ false
-not_continues n c k l u None e = refl
 not_continues n c k l u (Some (Granted m c' k' l' u')) e = and_left (ltb n u') (int_eq l l') e
-not_continues n c k l u (Some r) e = refl
+not_continues n c k l u _ e = refl
 
 module _ (history : List Record) (n : ℕ) (c : Client) (k : Kind) (l : ℤ) (u : ℕ) where
   lease_records_granted : lease_records (history ++ Granted n c k l u ∷ []) c k ≡ Granted n c k l u ∷ lease_records history c k

@@ -1,9 +1,7 @@
 -- What is found as the first record of a run is where the run begins.
 use Rattle.std.proofs.Common.{◌≡◌, ◌∙◌, ◌%◌, ◌++◌, length, List, [], ◌∷◌, Bool, true, false, not, ◌&&◌, ◌||◌, cond, map, refl, sym, ap, subst, Option, Some, None}
-use Rattle.std.specs.List.{filter, find, list_any}
-use Rattle.std.proofs.lemmas.Bool.{false≢true, true≢false}
-use Rattle.std.specs.Option.{option_map_or}
-use Rattle.std.proofs.lemmas.List.{length-map}
+use Rattle.std.proofs.lemmas.{Bool.{false≢true, true≢false}, List.{length-map}}
+use Rattle.std.specs.{List.{filter, find, list_any}, Option.{option_map_or}}
 use Rattle.ptu_units.specs.declared.{client.Client.{Client}, kind.Kind.{Kind}}
 use Rattle.ptu_history.specs.History.{Record, Granted, is_decision, moment_of, lease_records}
 use Rattle.ptu_history.specs.Live.{last_decision}
@@ -47,21 +45,27 @@ run_from_first goes_on (s ∷ rs) r e = at (is_decision s) refl (goes_on s (find
     decided : (later : List Record) (b : Bool) → is_decision s ≡ b → filter is_decision (s ∷ later) ≡ cond b (s ∷ filter is_decision later) (filter is_decision later)
     decided later b own = ap (λ x. cond x (s ∷ filter is_decision later) (filter is_decision later)) own
 
+    -- a run with this record at its end
+    longer : (later : List Record) → IsRun goes_on rs r later → (b : Bool) → is_decision s ≡ b →
+        Unbroken goes_on (cond b (s ∷ filter is_decision (later ++ r ∷ [])) (filter is_decision (later ++ r ∷ []))) → (more : List Record) × IsRun goes_on (s ∷ rs) r more
+    longer later run b own unbroken = (
+      s ∷ later,
+      record {
+        earlier = run.earlier;
+        parts = ap (λ ts. s ∷ ts) run.parts;
+        decided = run.decided;
+        is_first = run.is_first;
+        unbroken = subst (λ ts. Unbroken goes_on ts) (sym (decided (later ++ r ∷ []) b own)) unbroken;
+      },
+    )
+
     at : (b : Bool) → is_decision s ≡ b → (d : Bool) → goes_on s (find is_decision rs) ≡ d → cond (b && not d) (Some s) (first_of_run goes_on rs) ≡ Some r → (first_of_run goes_on rs ≡ Some r → (later : List Record) × IsRun goes_on rs r later) → (later : List Record) × IsRun goes_on (s ∷ rs) r later
     at true own true on is ih =
         let found : (later : List Record) × IsRun goes_on rs r later = ih is in
         let run : IsRun goes_on rs r found.0 = found.1 in
         let next : goes_on s (first_of (filter is_decision (found.0 ++ r ∷ []))) ≡ true
-        = ap (λ d. goes_on s d) (sym (first_kept found.0 run.earlier r run.decided) ∙ ap (λ ts. first_of (filter is_decision ts)) (sym run.parts) ∙ sym (find_first rs)) ∙ on in (
-          s ∷ found.0,
-          record {
-            earlier = run.earlier;
-            parts = ap (λ ts. s ∷ ts) run.parts;
-            decided = run.decided;
-            is_first = run.is_first;
-            unbroken = subst (λ ts. Unbroken goes_on ts) (sym (decided (found.0 ++ r ∷ []) true own)) (unbroken_cons goes_on s (filter is_decision (found.0 ++ r ∷ [])) next run.unbroken);
-          },
-        )
+        = ap (λ d. goes_on s d) (sym (first_kept found.0 run.earlier r run.decided) ∙ ap (λ ts. first_of (filter is_decision ts)) (sym run.parts) ∙ sym (find_first rs)) ∙ on in
+        longer found.0 run true own (unbroken_cons goes_on s (filter is_decision (found.0 ++ r ∷ [])) next run.unbroken)
     at true own false on is ih =
         let same : s ≡ r = cc in (
           [],
@@ -76,16 +80,8 @@ run_from_first goes_on (s ∷ rs) r e = at (is_decision s) refl (goes_on s (find
         )
     at false own d on is ih =
         let found : (later : List Record) × IsRun goes_on rs r later = ih is in
-        let run : IsRun goes_on rs r found.0 = found.1 in (
-          s ∷ found.0,
-          record {
-            earlier = run.earlier;
-            parts = ap (λ ts. s ∷ ts) run.parts;
-            decided = run.decided;
-            is_first = run.is_first;
-            unbroken = subst (λ ts. Unbroken goes_on ts) (sym (decided (found.0 ++ r ∷ []) false own)) run.unbroken;
-          },
-        )
+        let run : IsRun goes_on rs r found.0 = found.1 in
+        longer found.0 run false own run.unbroken
 
 -- a first decision is found before a decision
 some_first : (later : List Record) (r : Record) → is_decision r ≡ true → (t : Record) × (first_of (filter is_decision (later ++ r ∷ [])) ≡ Some t)

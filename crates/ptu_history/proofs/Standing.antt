@@ -1,20 +1,17 @@
 -- Which grants stand: the last decisions that are grants, one at most for each client and kind.
 use Rattle.std.proofs.Common.{◌≡◌, ◌∙◌, ℕ, zero, suc, ◌++◌, List, [], ◌∷◌, get_or, Bool, true, false, not, ◌||◌, cond, refl, sym, ap, subst, arith, Some, None, ℤ}
-use Rattle.std.specs.{List.{All, AllPairs, Contains, filter, list_any}, Option.{option_or}}
 use Rattle.std.proofs.lemmas.Bool.{or_right, or_left, false_from_ne_true, false≢true, true≢false, not-true}
 use Rattle.std.proofs.lemmas.List.Elements.{All-append, All-cons, All-filter, All-nil, All-weaker, Contains-append_left, Contains-append_right, filter_passes}
-use Rattle.std.proofs.lemmas.List.Kept.{AllPairs-cons}
-use Rattle.std.proofs.Math.Bool.{or-false}
-use Rattle.ptu_units.specs.declared.kind.Kind.{Kind}
-use Rattle.ptu_units.specs.{declared.client.Client.{Client}, Client.{same_lease}}
+use Rattle.std.proofs.{lemmas.List.Kept.{AllPairs-cons}, Math.Bool.{or-false}}
+use Rattle.std.specs.{List.{All, AllPairs, Contains, filter, list_any}, Option.{option_or}}
+use Rattle.ptu_units.specs.declared.{kind.Kind.{Kind}, client.Client.{Client}}
+use Rattle.ptu_units.specs.Client.{same_lease}
 use Rattle.ptu_history.specs.History.{Record, Granted, decides, lease_records}
 use Rattle.ptu_history.specs.Live.{Grant, IsLastDecision, last_decision, standing}
 use Rattle.ptu_units.proofs.Keys.{same_lease-refl, same_lease-true}
-use Rattle.ptu_history.proofs.Lists.{by_push}
+use Rattle.ptu_history.proofs.{Lists.{by_push}, Decisions.{last_decision-decided}}
 use Rattle.ptu_history.proofs.LeaseRecords.{last_decision-append, last_decision-one}
-use Rattle.ptu_history.proofs.Decisions.{last_decision-decided}
-use Rattle.ptu_history.proofs.Currents.{standing-append, standing-granted}
-use Rattle.ptu_history.proofs.Members.{Differ}
+use Rattle.ptu_history.proofs.{Currents.{standing-append, standing-granted}, Members.{Differ}}
 
 pub last_pushed : (history : List Record) (r : Record) (c : Client) (k : Kind) → last_decision (history ++ r ∷ []) c k ≡ cond (decides c k r) (Some r) (last_decision history c k)
 last_pushed history r c k =

@@ -1,12 +1,11 @@
 -- A list in strict order is given by its members.
 use Rattle.std.proofs.Common.{◌≡◌, ◌∙◌, ◌⊎◌, inl, inr, zero, suc, ◌+◌, ◌<◌, List, [], ◌∷◌, length, get_or, Bool, true, false, cond, refl, sym, ap, subst, arith}
-use Rattle.std.specs.{List.{AllPairs, Contains, filter}, List.Sorted.{IsPermutation, IsSorted}}
-use Rattle.std.specs.{Cmp.{IsTotalOrder}, Ordering.{is_lt, ordering_reverse}}
-use Rattle.std.specs.declared.cmp.{Ordering.{Ordering}, Ordering.TheVariants.{Less, Equal, Greater}}
-use Rattle.std.proofs.lemmas.{Bool.{true≢false}, Cmp.{tied_itself}}
+use Rattle.std.proofs.lemmas.{Bool.{true≢false}, Cmp.{tied_itself}, List.Kept.{AllPairs-cons}}
 use Rattle.std.proofs.lemmas.List.Elements.{All-contains, All-contains_itself, All-filter, Contains-append_right, Contains-get_or, filter_passes}
-use Rattle.std.proofs.lemmas.List.Kept.{AllPairs-cons}
 use Rattle.std.proofs.lemmas.List.Sorted.{Contains-permutation, IsPermutation-sym, ranks_by, sorted_far}
+use Rattle.std.specs.{List.{AllPairs, Contains, filter}, Cmp.{IsTotalOrder}}
+use Rattle.std.specs.{List.Sorted.{IsPermutation, IsSorted}, Ordering.{is_lt, ordering_reverse}}
+use Rattle.std.specs.declared.cmp.{Ordering.{Ordering}, Ordering.TheVariants.{Less, Equal, Greater}}
 use Rattle.ptu_history.specs.Order.{in_order, insert_in_order}
 use Rattle.ptu_history.proofs.Order.{insert_permutes}
 
@@ -76,8 +75,7 @@ pub below_from : (a b : Ordering) → a ≡ ordering_reverse b → is_lt b ≡ f
 below_from Less b e f differ = refl
 below_from Equal b e f differ = absurd (differ refl)
 below_from Greater Less e f differ = absurd (true≢false f)
-below_from Greater Equal e f differ = absurd (cc)
-below_from Greater Greater e f differ = absurd (cc)
+below_from Greater b e f differ = absurd (cc)
 
 pub Rises-from_sorted : {A : Type 0} (cmp : A → A → Ordering) → IsTotalOrder cmp → (R : A → A → Type 0) → ((x y : A) → R x y → cmp x y ≡ Equal → ⊥) → (xs : List A) → IsSorted cmp xs → Apart R xs → Rises cmp xs
 Rises-from_sorted cmp total R differ [] up apart = tt
@@ -98,8 +96,7 @@ Rises-from_sorted {A} cmp total R differ (x ∷ xs) up apart = (
 
 clash : (a b : Ordering) → a ≡ ordering_reverse b → b ≡ Less → a ≡ Less → ⊥
 clash a Less e f g = cc
-clash a Equal e f g = cc
-clash a Greater e f g = cc
+clash a _ e f g = cc
 
 not_itself : (a : Ordering) → a ≡ Equal → a ≡ Less → ⊥
 not_itself a e f = cc

@@ -1,14 +1,12 @@
 -- The verdict by its cases, and the records that it leaves.
 use Rattle.std.proofs.Common.{◌≡◌, ◌∙◌, ℕ, ◌+◌, ◌*◌, ◌<◌, ◌≤◌, ◌++◌, List, [], Bool, true, false, cond, eqb, leb, ltb, max, refl, ap, Some, None, Ok, Err, Result, ℤ, pos}
-use Rattle.std.specs.Prelude.{IsOk, IsErr, int_le, T}
 use Rattle.std.proofs.lemmas.Bool.{le-leb, lt-leb, lt-ltb, le-ltb, and_from, and_parts, false_from_ne_true, false≢true}
-use Rattle.ptu_units.specs.{declared.kind.Kind.{Kind}, Kind.{kind_of}}
-use Rattle.ptu_units.specs.Log.{IsLogOf, least_log, rate_of}
-use Rattle.ptu_units.specs.{declared.client.Client.{Client}, Client.{table_of}}
+use Rattle.std.specs.Prelude.{IsOk, IsErr, int_le, T}
+use Rattle.ptu_units.specs.{declared.kind.Kind.{Kind}, Kind.{kind_of}, Client.{table_of}}
+use Rattle.ptu_units.specs.{Log.{IsLogOf, least_log, rate_of}, declared.client.Client.{Client}}
 use Rattle.ptu_history.specs.History.{Record, Granted, Short, capacity_in_force}
-use Rattle.ptu_history.specs.Moments.{book_moment, table_moment}
+use Rattle.ptu_history.specs.{Moments.{book_moment, table_moment}, Step.{verdict_records}}
 use Rattle.ptu_history.specs.Verdict.{Config, Ask, OutsideCause, OutsideCode, OutsideLog, OutsideDuration, Verdict, granted_seconds, is_log_of, others, profile, profile_of, verdict, verdict_of, verdict_within, GrantedFor, ShortOf, Outside}
-use Rattle.ptu_history.specs.Step.{verdict_records}
 use Rattle.ptu_history.proofs.Moments.{book_moment-push, table_moment-push}
 
 pub verdict-within : (config : Config) (history : List Record) (n : ℕ) (c : Client) (k : Kind) (ask : Ask) → profile ask ≡ Ok k → verdict config history n c ask ≡ verdict_within config history n c k ask

@@ -2,10 +2,9 @@
 -- project's own choice).
 use Rattle.std.specs.Prelude.{ℕ, max, List, [], ◌∷◌, ◌++◌}
 use Rattle.ptu_units.specs.Client.{table_of}
-use Rattle.ptu_history.specs.History.{Record}
-use Rattle.ptu_history.specs.{Moments.{book_moment, table_moment}, Verdict.{Config}}
+use Rattle.ptu_history.specs.{History.{Record}, Moments.{book_moment, table_moment}, Step.{step}}
+use Rattle.ptu_history.specs.Verdict.{Config}
 use Rattle.ptu_history.specs.Events.{Event, Request, Cancel, Turn, DelayReq, Resize, Outcome, Taken}
-use Rattle.ptu_history.specs.Step.{step}
 
 -- the greatest of the moment, the book's and the table's
 unfoldable pub table_step_moment : List Record → ℕ → ℕ → ℕ

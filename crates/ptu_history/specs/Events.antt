@@ -2,8 +2,7 @@
 -- changes of capacity are the project's own choice).
 use Rattle.std.specs.Prelude.{ℕ, Bool, List}
 use Rattle.ptu_units.specs.declared.{client.Client.{Client}, kind.Kind.{Kind}}
-use Rattle.ptu_history.specs.{History.{Record}, Live.{Grant}}
-use Rattle.ptu_history.specs.Verdict.{Ask, Verdict}
+use Rattle.ptu_history.specs.{History.{Record}, Live.{Grant}, Verdict.{Ask, Verdict}}
 
 -- what may happen to a grandmaster
 pub data Event : Type 0 where

@@ -1,10 +1,10 @@
 -- When a timing message may be sent: in its own period, inside a live grant (the project's own
 -- choice).
 use Rattle.std.specs.Prelude.{ℕ, ◌+◌, ◌*◌, max, Bool, ◌&&◌, List, [], ◌∷◌, length, nat_le}
-use Rattle.ptu_units.specs.declared.kind.{Kind.{Kind}, Kind.TheVariants.{Announce, Sync, DelayResp}}
-use Rattle.ptu_units.specs.{declared.client.Client.{Client}, Log.{period_of}}
-use Rattle.ptu_history.specs.{History.{Record, Granted, lease_records}, Moments.{greatest_by}}
-use Rattle.ptu_history.specs.{Live.{live}, Runs.{chain, sent_in_chain}}
+use Rattle.ptu_units.specs.{declared.kind.Kind.{Kind}, Log.{period_of}}
+use Rattle.ptu_units.specs.declared.{kind.Kind.TheVariants.{DelayResp}, client.Client.{Client}}
+use Rattle.ptu_history.specs.{History.{Record, Granted, lease_records}, Runs.{chain, sent_in_chain}}
+use Rattle.ptu_history.specs.{Moments.{greatest_by}, Live.{live}}
 
 -- of what concerns a client and kind, the latest first: the period of the last grant, or 0 where
 -- there is none
@@ -37,9 +37,8 @@ earliest_credited p from ts =
 -- the earliest moment of a message of the kind, by the period, the chain's moment and the messages
 -- since, the latest first
 abbrev pub earliest_of : Kind → ℕ → ℕ → List ℕ → ℕ
-earliest_of Announce p from ts = earliest_paced p from ts
-earliest_of Sync p from ts = earliest_paced p from ts
 earliest_of DelayResp p from ts = earliest_credited p from ts
+earliest_of _ p from ts = earliest_paced p from ts
 
 -- the earliest lawful moment of the next message of the client and kind
 unfoldable pub earliest : List Record → Client → Kind → ℕ
@@ -49,9 +48,8 @@ earliest history c k =
 -- the earliest lawful moment after a message at the moment, by the period and the earliest lawful
 -- moment before it
 abbrev pub edge_after : Kind → ℕ → ℕ → ℕ → ℕ
-edge_after Announce p edge x = x + p
-edge_after Sync p edge x = x + p
 edge_after DelayResp p edge x = max (edge + p) x
+edge_after _ p edge x = x + p
 
 -- a message of the client and kind may be sent at the moment
 unfoldable pub lawful : List Record → ℕ → Client → Kind → Bool

@@ -1,14 +1,13 @@
 -- What each event appends to a history, and its outcome (IEEE 1588-2019 clause 16.1; turns and
 -- changes of capacity are the project's own choice).
 use Rattle.std.specs.Prelude.{ℕ, List, [], ◌∷◌, map, if◌then◌else◌}
-use Rattle.ptu_units.specs.declared.kind.Kind.TheVariants.{DelayResp}
-use Rattle.ptu_units.specs.{declared.client.Client.{Client}, Client.{table_of}}
+use Rattle.ptu_units.specs.declared.{kind.Kind.TheVariants.{DelayResp}, client.Client.{Client}}
+use Rattle.ptu_units.specs.Client.{table_of}
 use Rattle.ptu_history.specs.History.{Record, Granted, Short, Ended, Capacity, Looked, Sent}
-use Rattle.ptu_history.specs.{Live.{live}, Lawful.{earliest, lawful}}
+use Rattle.ptu_history.specs.{Live.{live}, Turns.{due_grants, message_of, sent_record}}
+use Rattle.ptu_history.specs.{Lawful.{earliest, lawful}, Shedding.{shed_grants, shed_record}}
 use Rattle.ptu_history.specs.Verdict.{Config, Verdict, GrantedFor, ShortOf, Outside, verdict}
 use Rattle.ptu_history.specs.Events.{Event, Request, Cancel, Turn, DelayReq, Resize, Answer, Answered, NoGrant, TooSoon, Decided, Cancelled, Turned, Responded, Resized, Taken}
-use Rattle.ptu_history.specs.Turns.{due_grants, message_of, sent_record}
-use Rattle.ptu_history.specs.Shedding.{shed_grants, shed_record}
 
 -- the record of a verdict at the moment: none where the ask is outside the profile
 abbrev pub verdict_records : ℕ → Client → Verdict → List Record
@@ -26,8 +25,7 @@ delay_answer history x c =
 -- the record of an answer to a Delay_Req
 abbrev pub answer_records : ℕ → Client → Answer → List Record
 answer_records x c Answered = Sent x c DelayResp ∷ []
-answer_records x c NoGrant = []
-answer_records x c (TooSoon earliest) = []
+answer_records x c _ = []
 
 -- an event that is taken at the moment, after the history
 abbrev pub step : Config → List Record → ℕ → Event → Taken

@@ -1,18 +1,16 @@
 -- What a turn of a table sends (the project's own choice).
 use Rattle.std.specs.{Prelude.{ℕ, Bool, true, false, ◌&&◌, List, ◌==◌}, List.{filter}}
 use Rattle.std.specs.{Ordering.{nat_cmp, ordering_then}, declared.cmp.Ordering.{Ordering}}
-use Rattle.ptu_units.specs.declared.kind.{Kind.{Kind}, Kind.TheVariants.{Announce, Sync, DelayResp}}
-use Rattle.ptu_units.specs.declared.client.Client.{Client}
-use Rattle.ptu_units.specs.Client.{client_cmp, kind_cmp, table_of}
-use Rattle.ptu_history.specs.Order.{in_order}
-use Rattle.ptu_history.specs.{History.{Record, Sent}, Live.{Grant, live_grants}}
-use Rattle.ptu_history.specs.{Runs.{sequence_number}, Lawful.{earliest, lawful}, Events.{Message}}
+use Rattle.ptu_units.specs.{declared.kind.Kind.{Kind}, Client.{client_cmp, kind_cmp, table_of}}
+use Rattle.ptu_units.specs.declared.{kind.Kind.TheVariants.{DelayResp}, client.Client.{Client}}
+use Rattle.ptu_history.specs.{Order.{in_order}, History.{Record, Sent}, Runs.{sequence_number}}
+use Rattle.ptu_history.specs.{Live.{Grant, live_grants}, Lawful.{earliest, lawful}}
+use Rattle.ptu_history.specs.Events.{Message}
 
 -- the kinds that a turn sends
 abbrev pub is_turned : Kind → Bool
-is_turned Announce = true
-is_turned Sync = true
 is_turned DelayResp = false
+is_turned _ = true
 
 -- by earliest lawful moment, then client, then kind
 abbrev pub turn_cmp : List Record → Grant → Grant → Ordering

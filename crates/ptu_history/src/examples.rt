@@ -4,10 +4,9 @@
 ghost use Rattle.std.specs.Prelude.{◌≡◌, ℕ, Bool, true, false, List, [], ◌∷◌, ◌++◌, pos, negsuc};
 ghost use Rattle.ptu_units.specs.declared.kind.Kind.TheVariants.{Announce, Sync, DelayResp};
 ghost use Rattle.ptu_history.specs.History.{Granted, Ended, Capacity, Looked, Sent, Shed};
-ghost use Rattle.ptu_history.specs.Counts.{counts};
 ghost use Rattle.ptu_history.specs.Verdict.{own_rate, table_rates, OutsideCode, OutsideLog, OutsideDuration, Outside};
 ghost use Rattle.ptu_history.specs.Events.{Request, DelayReq, Decided, Cancelled, Turned, Responded, Resized, Answered, NoGrant, TooSoon};
-ghost use Rattle.ptu_history.specs.Core.{core_history, core_outcomes};
+ghost use Rattle.ptu_history.specs.{Core.{core_history, core_outcomes}, Counts.{counts}};
 ghost use Rattle.ptu_history.specs.Held.{budget, count, force, held, payments};
 ghost use Rattle.ptu_history.specs.Examples.{ask_at_expiry, ask_of, cancel_at_expiry, cancelled_twice, config_of, credit_of_two, delay_req_at_expiry, denials, early_cancel, first_client, granted, late_turns, lower_capacity, refused_renewal, repeat_in_full_table, second_client, seconds, shed_of_four, shed_of_greater_first, shed_of_two, short, slower_renewal, sync_and_turns, sync_payment, third_client, two_tables, turn_beside_delay_resp, turn_of_four, turn_of_two, turned_none, turned_one, turns_of_two_tables};
 

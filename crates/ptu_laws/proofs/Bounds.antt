@@ -1,25 +1,22 @@
 -- Moments that are handed bound those of the records, and capacities that are handed bound the budget.
 use Rattle.std.proofs.Common.{◌≡◌, ◌∙◌, ℕ, zero, suc, ◌+◌, ◌*◌, ◌/◌, ◌≤◌, ◌++◌, List, [], ◌∷◌, map, Bool, true, false, ◌&&◌, cond, refl, sym, ap, subst, arith}
-use Rattle.std.specs.List.{All, Contains, count_by, filter, list_any}
-use Rattle.std.proofs.{Math.Nat.{mul-suc}, lemmas.Bool.{le-leb, or_parts, true≢false}}
-use Rattle.std.proofs.lemmas.Nat.{le-div}
+use Rattle.std.proofs.{Math.Nat.{mul-suc}, lemmas.Nat.{le-div}}
+use Rattle.std.proofs.lemmas.{Bool.{le-leb, or_parts, true≢false}, List.Sums.{sum_by-cons}}
 use Rattle.std.proofs.lemmas.List.Elements.{All-append, All-cons, All-filter, All-head, All-nil, All-tail, Contains-append_right}
-use Rattle.std.proofs.lemmas.List.Sums.{sum_by-cons}
-use Rattle.ptu_units.specs.declared.kind.Kind.{Kind}
-use Rattle.ptu_units.specs.{declared.client.Client.{Client}, Client.{table_of}}
-use Rattle.ptu_history.specs.History.{Record, Granted, Short, Ended, Capacity, Shed, Looked, Sent, capacity_in_force, is_change, is_sent, moment_of}
+use Rattle.std.specs.List.{All, Contains, count_by, filter, list_any}
+use Rattle.ptu_units.specs.declared.{kind.Kind.{Kind}, client.Client.{Client}}
+use Rattle.ptu_units.specs.Client.{table_of}
+use Rattle.ptu_history.specs.History.{Record, Granted, Capacity, Sent, capacity_in_force, is_change, is_sent, moment_of}
 use Rattle.ptu_history.specs.Moments.{book_moment, book_part, greatest_by, table_moment, table_part}
-use Rattle.ptu_history.specs.{Live.{Grant}, Verdict.{Config}}
-use Rattle.ptu_history.specs.Events.{Event, Request, Cancel, Turn, DelayReq, Resize}
-use Rattle.ptu_history.specs.Shedding.{shed_grants, shed_record}
+use Rattle.ptu_history.specs.{Live.{Grant}, Events.{Event, Request, Cancel, Turn, DelayReq, Resize}}
+use Rattle.ptu_history.specs.{Verdict.{Config}, Shedding.{shed_grants, shed_record}}
 use Rattle.ptu_history.specs.Core.{book_step_moment, core_moment, core_step, core_history, table_step_moment}
 use Rattle.ptu_history.specs.Held.{budget, count, force, is_by, payment, payments, payments_after}
-use Rattle.ptu_history.proofs.{Lists.{by_push}, Histories.{history-event, history-none}}
+use Rattle.ptu_history.proofs.{Lists.{by_push}, PaymentLists.{payments_after-append}}
+use Rattle.ptu_history.proofs.{Histories.{history-event, history-none}, Moments.{table_part-le}}
 use Rattle.ptu_laws.specs.Changes.{IsUpTo}
 use Rattle.ptu_laws.proofs.Budget.{count-within, step_unchanged}
-use Rattle.ptu_history.proofs.PaymentLists.{payments_after-append}
 use Rattle.ptu_laws.proofs.Steps.{AllAt, book_part-le, step-at}
-use Rattle.ptu_history.proofs.Moments.{table_part-le}
 
 -- the front of a list, and its last
 all_front : {A : Type 0} (P : A → Type 0) (xs : List A) (x : A) → All P (xs ++ x ∷ []) → All P xs × P x
@@ -86,13 +83,8 @@ RecordUpTo most (Capacity x capacity) = capacity ≤ most
 RecordUpTo most _ = Unit {0}
 
 other_up_to : (most : ℕ) (r : Record) → is_change r ≡ false → RecordUpTo most r
-other_up_to most (Granted n c k l u) other = tt
-other_up_to most (Short n c) other = tt
-other_up_to most (Ended n c k) other = tt
 other_up_to most (Capacity n capacity) other = absurd (true≢false other)
-other_up_to most (Shed n c k) other = tt
-other_up_to most (Looked n j) other = tt
-other_up_to most (Sent n c k) other = tt
+other_up_to most _ other = tt
 
 others_up_to : (most : ℕ) (rs : List Record) → list_any is_change rs ≡ false → All (RecordUpTo most) rs
 others_up_to most [] none = All-nil (RecordUpTo most)
@@ -105,14 +97,11 @@ sheds_up_to most x [] = refl
 sheds_up_to most x (g ∷ gs) = sheds_up_to most x gs
 
 step_up_to : (config : Config) (most : ℕ) (before : List Record) (t : ℕ) (event : Event) → IsUpTo most event → All (RecordUpTo most) (core_step config before t event).records
-step_up_to config most before t (Request c ask) is = others_up_to most (core_step config before t (Request c ask)).records (step_unchanged config before t (Request c ask) refl)
-step_up_to config most before t (Cancel c k) is = others_up_to most (core_step config before t (Cancel c k)).records (step_unchanged config before t (Cancel c k) refl)
-step_up_to config most before t (Turn j) is = others_up_to most (core_step config before t (Turn j)).records (step_unchanged config before t (Turn j) refl)
-step_up_to config most before t (DelayReq c) is = others_up_to most (core_step config before t (DelayReq c)).records (step_unchanged config before t (DelayReq c) refl)
 step_up_to config most before t (Resize capacity) is =
     let x : ℕ = book_step_moment before t in
     All-cons (RecordUpTo most) (Capacity x capacity) (map (shed_record x) (shed_grants before x capacity)) is
     (others_up_to most (map (shed_record x) (shed_grants before x capacity)) (sheds_up_to most x (shed_grants before x capacity)))
+step_up_to config most before t event is = others_up_to most (core_step config before t event).records (step_unchanged config before t event refl)
 
 history_up_to : (config : Config) (events : List (ℕ × Event)) (most : ℕ) → All (λ e. IsUpTo most e.1) events → All (RecordUpTo most) (core_history config events)
 history_up_to config events most =

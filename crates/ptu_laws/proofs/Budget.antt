@@ -1,25 +1,22 @@
 -- All messages up to a moment are within the budget.
-use Rattle.std.proofs.Common.{◌≡◌, ◌∙◌, ℕ, zero, suc, ◌+◌, ◌*◌, ◌≤◌, ◌++◌, List, [], ◌∷◌, map, Bool, true, false, ◌&&◌, ◌||◌, cond, leb, refl, sym, ap, arith}
-use Rattle.std.specs.List.{All, list_any, sum_by}
+use Rattle.std.proofs.Common.{◌≡◌, ◌∙◌, ℕ, zero, suc, ◌+◌, ◌*◌, ◌≤◌, ◌++◌, List, [], ◌∷◌, Bool, true, false, ◌&&◌, ◌||◌, cond, leb, refl, sym, ap, arith}
 use Rattle.std.proofs.lemmas.Bool.{leb-true, or_from, or_parts, true≢false}
 use Rattle.std.proofs.lemmas.List.{Elements.{All-head, All-tail}, Folds.{list_any-append}}
 use Rattle.std.proofs.lemmas.List.Sums.{sum_by-cons}
+use Rattle.std.specs.List.{All, list_any, sum_by}
 use Rattle.ptu_units.specs.declared.client.Client.{Client}
-use Rattle.ptu_history.specs.{History.{Record, Granted, Sent, is_change, is_sent}, Live.{Grant}}
-use Rattle.ptu_history.specs.Verdict.{Config, Verdict, verdict, GrantedFor, ShortOf, Outside}
-use Rattle.ptu_history.specs.Events.{Event, Request, Cancel, Turn, DelayReq, Resize, Answer, Answered, NoGrant, TooSoon}
-use Rattle.ptu_history.specs.Turns.{due_grants, sent_record}
+use Rattle.ptu_history.specs.History.{Record, Granted, Sent, is_change, is_sent}
+use Rattle.ptu_history.specs.{Verdict.{Config, Verdict, verdict, GrantedFor}, Turns.{due_grants}}
+use Rattle.ptu_history.specs.Events.{Event, Request, Cancel, Turn, DelayReq, Resize, Answer, Answered}
 use Rattle.ptu_history.specs.Step.{answer_records, delay_answer, verdict_records}
 use Rattle.ptu_history.specs.Core.{core_moment, core_step, core_history}
 use Rattle.ptu_history.specs.Held.{Payment, budget, count, force, held, is_by, payment, payments, payments_after}
 use Rattle.ptu_history.proofs.{Lists.{by_push}, Capacities.{budget-same}}
-use Rattle.ptu_history.proofs.Histories.{history-event, history-none}
-use Rattle.ptu_history.proofs.AfterSteps.{sent_unchanged}
+use Rattle.ptu_history.proofs.{Histories.{history-event, history-none}, AfterSteps.{sent_unchanged}}
 use Rattle.ptu_laws.specs.{Changes.{is_resize}, Sound.{IsSound}}
-use Rattle.ptu_laws.proofs.{Capacity.{held-sound}, Followed.{AllMayFollow}}
-use Rattle.ptu_laws.proofs.Stands.{follow-stand, sound-core, stand-from}
+use Rattle.ptu_laws.proofs.{Capacity.{held-sound}, Payments.{payments-apart, payments-paid}}
+use Rattle.ptu_laws.proofs.{Followed.{AllMayFollow}, Stands.{follow-stand, sound-core, stand-from}}
 use Rattle.ptu_laws.proofs.Covered.{IsPaidAny, is_in_payment, paid-within, weight, weight-whole}
-use Rattle.ptu_laws.proofs.Payments.{payments-apart, payments-paid}
 use Rattle.ptu_laws.proofs.Sums.{sum-exchange, sum_below, sum_below-le, sum_whole}
 
 budget-sum : (opening : ℕ) (history : List Record) (n : ℕ) → budget opening history n ≡ sum_below n (force opening history)
@@ -82,13 +79,11 @@ count-within config events = count-sound config.capacity (core_history config ev
 
 verdict_unchanged : (x : ℕ) (c : Client) (v : Verdict) → list_any is_change (verdict_records x c v) ≡ false
 verdict_unchanged x c (GrantedFor k l seconds until) = refl
-verdict_unchanged x c (ShortOf k l others rate capacity) = refl
-verdict_unchanged x c (Outside cause) = refl
+verdict_unchanged x c _ = refl
 
 answer_unchanged : (x : ℕ) (c : Client) (a : Answer) → list_any is_change (answer_records x c a) ≡ false
 answer_unchanged x c Answered = refl
-answer_unchanged x c NoGrant = refl
-answer_unchanged x c (TooSoon earliest) = refl
+answer_unchanged x c _ = refl
 
 pub step_unchanged : (config : Config) (before : List Record) (t : ℕ) (event : Event) → is_resize event ≡ false → list_any is_change (core_step config before t event).records ≡ false
 step_unchanged config before t (Request c ask) other = verdict_unchanged (core_moment before t (Request c ask)) c (verdict config before (core_moment before t (Request c ask)) c ask)

@@ -1,19 +1,18 @@
 -- What is held at a moment is at most the capacity in force there, for every sound list of records.
 use Rattle.std.proofs.Common.{◌≡◌, ◌∙◌, ◌⊎◌, inl, inr, ℕ, ◌+◌, ◌<◌, ◌≤◌, max, ◌++◌, List, [], ◌∷◌, Bool, true, false, not, cond, eqb, ltb, refl, sym, ap, subst, arith, ℤ, append_assoc}
-use Rattle.std.specs.List.{filter}
 use Rattle.std.proofs.lemmas.{Bool.{eqb-true, lt-ltb, ltb-true, ltb-false}, List.{append-nil}}
 use Rattle.std.proofs.lemmas.List.{Elements.{filter-append}, Sums.{sum_by-append, sum_by-cons}}
-use Rattle.ptu_units.specs.{declared.kind.Kind.{Kind}, Log.{rate_of}}
-use Rattle.ptu_units.specs.{declared.client.Client.{Client}, Client.{same_lease}}
-use Rattle.ptu_history.specs.History.{Record, Granted, Short, Ended, Capacity, Shed, Looked, Sent, capacity_in_force, is_change, is_decision, moment_of}
+use Rattle.std.specs.List.{filter}
+use Rattle.ptu_units.specs.declared.{kind.Kind.{Kind}, client.Client.{Client}}
+use Rattle.ptu_units.specs.{Log.{rate_of}, Client.{same_lease}}
+use Rattle.ptu_history.specs.History.{Record, Granted, Ended, Capacity, Shed, capacity_in_force, is_change, is_decision, moment_of}
 use Rattle.ptu_history.specs.{Moments.{book_moment}, Live.{Grant, live_grants, standing, without}}
-use Rattle.ptu_history.specs.{Verdict.{Config, others, rate_sum}, Events.{Event}}
-use Rattle.ptu_history.specs.{Core.{core_history}, Held.{force, held, terms}}
-use Rattle.ptu_history.proofs.Lists.{filter-comm}
+use Rattle.ptu_history.specs.{Verdict.{Config, others, rate_sum}, Held.{force, held, terms}}
+use Rattle.ptu_history.specs.{Events.{Event}, Core.{core_history}}
+use Rattle.ptu_history.proofs.{Lists.{filter-comm}, Moments.{book_moment-push}}
 use Rattle.ptu_history.proofs.Capacities.{capacity_in_force-changed, capacity_in_force-unchanged}
 use Rattle.ptu_history.proofs.Currents.{standing-ended, standing-granted, standing-shed}
 use Rattle.ptu_history.proofs.Held.{held-now, held-before, held-quiet, force-now, force-before, force-quiet}
-use Rattle.ptu_history.proofs.Moments.{book_moment-push}
 use Rattle.ptu_laws.specs.Sound.{IsSound, MayStand, sheds_at}
 use Rattle.ptu_laws.proofs.Rests.{rate_sum-filter, rate_sum-filter_le}
 use Rattle.ptu_laws.proofs.Stands.{AllStand, sound-core, stand-from}
@@ -131,7 +130,6 @@ one-within opening history r past within fits = kept opening (moment_of r) (r �
 stand-within : (opening : ℕ) (history : List Record) (r : Record) (rest : List Record) → MayStand opening history r rest → IsWithin opening history → IsKept opening (history ++ r ∷ []) rest
 stand-within opening history (Granted n c k l u) rest may within =
     inl (one-within opening history (Granted n c k l u) may.0.0 within (fits-granted opening n c k l u history may.2))
-stand-within opening history (Short n c) rest may within = inl (quiet-within opening history (Short n c) refl refl within)
 stand-within opening history (Ended n c k) rest may within =
     inl (one-within opening history (Ended n c k) may.0 within (fits-ended opening n c k history (fits_now opening n history within may.0)))
 stand-within opening history (Capacity x capacity) rest may within =
@@ -147,8 +145,7 @@ stand-within opening history (Capacity x capacity) rest may within =
     )
 stand-within opening history (Shed x c k) rest may within =
     inl (one-within opening history (Shed x c k) may.0 within (fits-shed opening x c k history (fits_now opening x history within may.0)))
-stand-within opening history (Looked x j) rest may within = inl (quiet-within opening history (Looked x j) refl refl within)
-stand-within opening history (Sent x c k) rest may within = inl (quiet-within opening history (Sent x c k) refl refl within)
+stand-within opening history r rest may within = inl (quiet-within opening history r refl refl within)
 
 -- one shedding of a change
 changing-on : (opening x y : ℕ) (c : Client) (k : Kind) (history rest : List Record) → eqb y x ≡ true → IsChanging opening history x (Shed y c k ∷ rest) → IsChanging opening (history ++ Shed y c k ∷ []) x rest
@@ -172,12 +169,7 @@ stand-kept opening history (Shed y c k) rest may (inr (x, is)) = at (eqb y x) re
     at false later =
         stand-within opening history (Shed y c k) rest may
         (changed opening x history (Shed y c k ∷ rest) (ap (λ b. cond b (Shed y c k ∷ sheds_at x rest) []) later) is)
-stand-kept opening history (Granted n c k l u) rest may (inr (x, is)) = stand-within opening history (Granted n c k l u) rest may (changed opening x history (Granted n c k l u ∷ rest) refl is)
-stand-kept opening history (Short n c) rest may (inr (x, is)) = stand-within opening history (Short n c) rest may (changed opening x history (Short n c ∷ rest) refl is)
-stand-kept opening history (Ended n c k) rest may (inr (x, is)) = stand-within opening history (Ended n c k) rest may (changed opening x history (Ended n c k ∷ rest) refl is)
-stand-kept opening history (Capacity n capacity) rest may (inr (x, is)) = stand-within opening history (Capacity n capacity) rest may (changed opening x history (Capacity n capacity ∷ rest) refl is)
-stand-kept opening history (Looked n j) rest may (inr (x, is)) = stand-within opening history (Looked n j) rest may (changed opening x history (Looked n j ∷ rest) refl is)
-stand-kept opening history (Sent n c k) rest may (inr (x, is)) = stand-within opening history (Sent n c k) rest may (changed opening x history (Sent n c k ∷ rest) refl is)
+stand-kept opening history r rest may (inr (x, is)) = stand-within opening history r rest may (changed opening x history (r ∷ rest) refl is)
 
 kept-end : (opening : ℕ) (history : List Record) → IsKept opening history [] → IsWithin opening history
 kept-end opening history (inl within) = within

@@ -1,44 +1,24 @@
 -- What the messages pay at a moment is within what is held there.
-use Rattle.std.proofs.Common.{◌≡◌, ◌∙◌, ℕ, zero, suc, ◌+◌, ◌-◌, ◌*◌, ◌/◌, ◌≤◌, List, [], ◌∷◌, Bool, true, false, not, ◌&&◌, ◌||◌, cond, leb, ltb, refl, sym, ap, arith, get_or, ℤ, pos, negsuc}
-use Rattle.std.specs.{List.{All, AllPairs, filter, list_any, sum_by}, Ordering.{int_eq}}
-use Rattle.std.proofs.{Math.Nat.{mul-div_cancel}, lemmas.Int.{ints}}
-use Rattle.std.proofs.lemmas.Bool.Decides.{Decides-int_eq}
-use Rattle.std.specs.Prelude.{◌≤ℤ◌}
+use Rattle.std.proofs.Common.{◌≡◌, ◌∙◌, ℕ, zero, suc, ◌+◌, ◌-◌, ◌*◌, ◌/◌, ◌≤◌, List, [], ◌∷◌, Bool, true, false, not, ◌&&◌, ◌||◌, cond, leb, ltb, refl, sym, ap, arith, get_or, ℤ}
+use Rattle.std.proofs.{Math.Nat.{mul-div_cancel}, lemmas.Int.{ints}, lemmas.List.Sums.{sum_by-cons}}
+use Rattle.std.proofs.lemmas.{Bool.Decides.{Decides-int_eq}, List.Kept.{AllPairs-filter}}
 use Rattle.std.proofs.lemmas.Bool.{and_parts, false_from_ne_true, false≢true, leb-true, ltb-true}
 use Rattle.std.proofs.lemmas.List.Elements.{All-filter, All-head, All-tail, filter_passes}
-use Rattle.std.proofs.lemmas.List.{Kept.{AllPairs-filter}, Sums.{sum_by-cons}}
-use Rattle.ptu_units.specs.declared.kind.{Kind.{Kind}, Kind.TheVariants.{Announce, Sync, DelayResp}}
-use Rattle.ptu_units.specs.Log.{IsLogOf, period_of, rate_of}
-use Rattle.ptu_units.specs.{declared.client.Client.{Client}, Client.{same_lease}}
+use Rattle.std.specs.{List.{All, AllPairs, filter, list_any, sum_by}, Ordering.{int_eq}}
+use Rattle.ptu_units.specs.{declared.kind.Kind.{Kind}, Log.{IsLog, IsLogOf, period_of, rate_of}}
+use Rattle.ptu_units.specs.declared.{kind.Kind.TheVariants.{Announce}, client.Client.{Client}}
+use Rattle.ptu_units.specs.Client.{same_lease}
 use Rattle.ptu_history.specs.History.{Record}
 use Rattle.ptu_history.specs.Held.{Payment, Term, held, is_in_term, payments, terms}
-use Rattle.ptu_units.proofs.Keys.{same_lease-true}
-use Rattle.ptu_history.proofs.Lists.{list_any-filter}
-use Rattle.ptu_history.proofs.Members.{pairs_front, pairs_rest}
+use Rattle.ptu_units.proofs.{Keys.{same_lease-true}, Tables.{rate-mul-period}}
+use Rattle.ptu_history.proofs.{Lists.{list_any-filter}, Members.{pairs_front, pairs_rest}}
 use Rattle.ptu_laws.specs.Paid.{IsBefore, IsPaid, is_held_at, is_term_at}
 use Rattle.ptu_laws.proofs.Sums.{sum-filter}
 
--- rate times period is the same for each logarithm in range
-pub in_any : (k : Kind) (l : ℤ) → IsLogOf k l → (negsuc 6 ≤ℤ l) × (l ≤ℤ pos 4)
-in_any Announce l is = (omega (arith, ints, is.0), is.1)
-in_any Sync l is = is
-in_any DelayResp l is = is
-
-pub rate_times_period : (l : ℤ) → negsuc 6 ≤ℤ l → l ≤ℤ pos 4 → rate_of l * period_of l ≡ 16 * 1000000000
-rate_times_period (pos zero) least greatest = refl
-rate_times_period (pos (suc zero)) least greatest = refl
-rate_times_period (pos (suc (suc zero))) least greatest = refl
-rate_times_period (pos (suc (suc (suc zero)))) least greatest = refl
-rate_times_period (pos (suc (suc (suc (suc zero))))) least greatest = refl
-rate_times_period (pos (suc (suc (suc (suc (suc n)))))) least greatest = absurd (omega (arith, ints, greatest))
-rate_times_period (negsuc zero) least greatest = refl
-rate_times_period (negsuc (suc zero)) least greatest = refl
-rate_times_period (negsuc (suc (suc zero))) least greatest = refl
-rate_times_period (negsuc (suc (suc (suc zero)))) least greatest = refl
-rate_times_period (negsuc (suc (suc (suc (suc zero))))) least greatest = refl
-rate_times_period (negsuc (suc (suc (suc (suc (suc zero)))))) least greatest = refl
-rate_times_period (negsuc (suc (suc (suc (suc (suc (suc zero))))))) least greatest = refl
-rate_times_period (negsuc (suc (suc (suc (suc (suc (suc (suc n)))))))) least greatest = absurd (omega (arith, ints, least))
+-- a logarithm in the range of a kind is in that of some kind
+pub in_any : (k : Kind) (l : ℤ) → IsLogOf k l → IsLog l
+in_any Announce l is = record { least = omega (arith, ints, is.0); greatest = is.1 }
+in_any k l is = record { least = is.0; greatest = is.1 }
 
 -- the weight with which a payment pays: sixteen seconds over its length
 pub weight : Payment → ℕ
@@ -61,7 +41,7 @@ module _ (history : List Record) (p : Payment) (l : ℤ) (paid : IsPaid history 
   length_is = let e : p.start + period_of l ≡ p.end = paid.period in omega arith
 
   sixteen : rate_of l * period_of l ≡ 16 * 1000000000
-  sixteen = rate_times_period l (in_any p.kind l paid.in_range).0 (in_any p.kind l paid.in_range).1
+  sixteen = rate-mul-period l (in_any p.kind l paid.in_range)
 
   pub weight-rate : weight p ≡ rate_of l
   unfolding weight

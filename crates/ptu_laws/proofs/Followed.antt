@@ -1,16 +1,14 @@
 -- What each record of a history has of the records before it.
 use Rattle.std.proofs.Common.{◌≡◌, ◌∙◌, ℕ, suc, ◌≤◌, ◌++◌, List, [], ◌∷◌, get_or, map, Bool, true, false, ◌&&◌, cond, eqb, refl, sym, ap, subst, arith, append_assoc, Ok, Err, Option, Some, None}
-use Rattle.std.specs.{List.{All, filter}, Prelude.{nat_lt}}
-use Rattle.std.proofs.lemmas.{List.{append-nil}, Bool.{and_parts}}
+use Rattle.std.proofs.lemmas.{List.{append-nil}, Bool.{and_parts}, List.Sorted.{All-permutation}}
 use Rattle.std.proofs.lemmas.List.Elements.{All-head, All-tail, All-weaker, filter_passes}
-use Rattle.std.proofs.lemmas.List.Sorted.{All-permutation}
-use Rattle.ptu_units.specs.declared.kind.{Kind.{Kind}, Kind.TheVariants.{DelayResp}}
-use Rattle.ptu_units.specs.{declared.client.Client.{Client}, Client.{same_lease, table_of}}
-use Rattle.ptu_history.specs.History.{Record, Granted, Short, Ended, Capacity, Shed, Looked, Sent}
-use Rattle.ptu_history.specs.Live.{Grant, IsDistinctByLease, live, live_grants}
-use Rattle.ptu_history.specs.{Lawful.{earliest, lawful}, Order.{in_order}}
+use Rattle.std.specs.{List.{All, filter}, Prelude.{nat_lt}}
+use Rattle.ptu_units.specs.{declared.kind.Kind.{Kind}, Client.{same_lease, table_of}}
+use Rattle.ptu_units.specs.declared.{kind.Kind.TheVariants.{DelayResp}, client.Client.{Client}}
+use Rattle.ptu_history.specs.History.{Record, Granted, Ended, Shed, Looked, Sent}
+use Rattle.ptu_history.specs.{Live.{Grant, IsDistinctByLease, live, live_grants}, Order.{in_order}}
+use Rattle.ptu_history.specs.{Lawful.{earliest, lawful}, Events.{Answered, NoGrant, TooSoon}}
 use Rattle.ptu_history.specs.Verdict.{Ask, OutsideLog, OutsideDuration, is_log_of, profile_of}
-use Rattle.ptu_history.specs.Events.{Answered, NoGrant, TooSoon}
 use Rattle.ptu_history.specs.Turns.{due_grants, is_due, is_turned, sent_record, turn_cmp}
 use Rattle.ptu_history.specs.Step.{answer_records, delay_answer}
 use Rattle.ptu_units.proofs.Keys.{same_lease-sym, same_lease-true}
@@ -22,11 +20,10 @@ use Rattle.ptu_laws.specs.Sound.{last_sent}
 -- messages of their client and kind, and a message is lawful
 abbrev pub MayFollow : List Record → Record → Type 0
 MayFollow before (Granted n c k l u) = (last_sent before c k ≤ n) × (is_log_of k l ≡ true)
-MayFollow before (Short n c) = Unit {0}
 MayFollow before (Ended n c k) = last_sent before c k ≤ n
-MayFollow before (Capacity n capacity) = Unit {0}
 MayFollow before (Shed n c k) = last_sent before c k ≤ n
-MayFollow before (Looked n j) = Unit {0}
+MayFollow before (Sent n c k) = lawful before n c k ≡ true
+MayFollow before _ = Unit {0}
 MayFollow before (Sent n c k) = lawful before n c k ≡ true
 
 pub own_sent : (before : List Record) (n : ℕ) (c d : Client) (k j : Kind) → same_lease c k d j ≡ true → last_sent before d j ≤ n → last_sent before c k ≤ n

@@ -5,7 +5,7 @@ use Rattle.std.proofs.lemmas.Bool.{and_from, and_parts, or_left, or_right, false
 use Rattle.std.proofs.lemmas.{Bool.Decides.{Decides-int_eq}, List.Folds.{find-append}}
 use Rattle.ptu_units.specs.declared.kind.Kind.{Kind}
 use Rattle.ptu_units.specs.{declared.client.Client.{Client}, Client.{same_lease}}
-use Rattle.ptu_history.specs.History.{Record, Granted, Short, Ended, Capacity, Shed, Looked, Sent, decides, moment_of}
+use Rattle.ptu_history.specs.History.{Record, Granted, decides, moment_of}
 use Rattle.ptu_history.specs.Held.{Term, end_of, terms}
 use Rattle.ptu_units.proofs.Keys.{same_lease-refl, same_lease-true}
 use Rattle.ptu_laws.specs.Paid.{is_held_at, is_term_at}
@@ -52,12 +52,7 @@ module _ (c : Client) (k : Kind) (l : ℤ) (x : ℕ) where
           (is_term_at c k l x now || list_any (is_term_at c k l x) (terms (history ++ r ∷ []))) ≡ true
       at true is h ih = or_left (is_term_at c k l x now) (list_any (is_term_at c k l x) (terms (history ++ r ∷ []))) (term_kept d j i n u history r later is)
       at false is h ih = or_right (is_term_at c k l x now) (list_any (is_term_at c k l x) (terms (history ++ r ∷ []))) (ih h)
-  any_kept (Short n d ∷ history) r later e = any_kept history r later e
-  any_kept (Ended n d j ∷ history) r later e = any_kept history r later e
-  any_kept (Capacity n capacity ∷ history) r later e = any_kept history r later e
-  any_kept (Shed n d j ∷ history) r later e = any_kept history r later e
-  any_kept (Looked n j ∷ history) r later e = any_kept history r later e
-  any_kept (Sent n d j ∷ history) r later e = any_kept history r later e
+  any_kept (s ∷ history) r later e = any_kept history r later e
 
   -- a record that decides on the client and kind after the moment, or not on them, leaves it held
   pub held_at-push : (history : List Record) (r : Record) → (decides c k r ≡ true → x < moment_of r) → is_held_at history c k l x ≡ true → is_held_at (history ++ r ∷ []) c k l x ≡ true
@@ -74,12 +69,7 @@ module _ (c : Client) (k : Kind) (l : ℤ) (x : ℕ) where
   any_new (Granted m d j i v ∷ history) n u from to =
       or_right (is_term_at c k l x (record { client = d; kind = j; log = i; start = m; end = end_of v (find (decides d j) (history ++ Granted n c k l u ∷ [])) }))
       (list_any (is_term_at c k l x) (terms (history ++ Granted n c k l u ∷ []))) (any_new history n u from to)
-  any_new (Short m d ∷ history) n u from to = any_new history n u from to
-  any_new (Ended m d j ∷ history) n u from to = any_new history n u from to
-  any_new (Capacity m capacity ∷ history) n u from to = any_new history n u from to
-  any_new (Shed m d j ∷ history) n u from to = any_new history n u from to
-  any_new (Looked m j ∷ history) n u from to = any_new history n u from to
-  any_new (Sent m d j ∷ history) n u from to = any_new history n u from to
+  any_new (r ∷ history) n u from to = any_new history n u from to
 
   -- a new grant holds from its moment to its end
   pub held_at-new : (history : List Record) (n u : ℕ) → n ≤ x → x < u → is_held_at (history ++ Granted n c k l u ∷ []) c k l x ≡ true

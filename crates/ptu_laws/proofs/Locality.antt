@@ -1,25 +1,23 @@
 -- What a turn or a Delay_Req sends depends on the records of its table alone, and on the book's moment.
 use Rattle.std.proofs.Common.{◌≡◌, ◌∙◌, ℕ, max, List, [], ◌∷◌, map, reverse, Bool, true, false, ◌&&◌, cond, eqb, ltb, refl, sym, ap, subst, arith}
-use Rattle.std.specs.{List.{All, filter, list_any}, Ordering.{nat_cmp, ordering_then}}
 use Rattle.std.proofs.lemmas.Bool.{and_parts, eqb-true, eq-eqb, false≢true}
 use Rattle.std.proofs.lemmas.List.Elements.{All-weaker, filter_agree, filter_passes}
 use Rattle.std.proofs.lemmas.List.Sorted.{All-permutation}
-use Rattle.ptu_units.specs.declared.kind.{Kind.{Kind}, Kind.TheVariants.{DelayResp}}
-use Rattle.ptu_units.specs.declared.client.Client.{Client}
+use Rattle.std.specs.{List.{All, filter, list_any}, Ordering.{nat_cmp, ordering_then}}
+use Rattle.ptu_units.specs.declared.kind.Kind.{Kind}
+use Rattle.ptu_units.specs.declared.{kind.Kind.TheVariants.{DelayResp}, client.Client.{Client}}
 use Rattle.ptu_units.specs.Client.{client_cmp, kind_cmp, same_lease, table_of}
-use Rattle.ptu_history.specs.Order.{in_order}
-use Rattle.ptu_history.specs.History.{Record, Granted, Short, Ended, Capacity, Shed, Looked, Sent, concerns, decides, is_decision, moment_of, lease_records}
+use Rattle.ptu_history.specs.{Order.{in_order}, Runs.{chain, sent_in_chain, sequence_number}}
+use Rattle.ptu_history.specs.History.{Record, Granted, Ended, Shed, Looked, Sent, concerns, decides, is_decision, moment_of, lease_records}
 use Rattle.ptu_history.specs.Moments.{book_moment, greatest_by, is_of_table, table_moment, table_part}
 use Rattle.ptu_history.specs.Live.{Grant, last_decision, live, live_grants, standing}
-use Rattle.ptu_history.specs.Runs.{chain, sent_in_chain, sequence_number}
-use Rattle.ptu_history.specs.{Lawful.{earliest, last_period, lawful}, Verdict.{Config}}
-use Rattle.ptu_history.specs.Events.{Turn, DelayReq, Turned, Responded}
+use Rattle.ptu_history.specs.Lawful.{earliest, last_period, lawful}
+use Rattle.ptu_history.specs.{Verdict.{Config}, Events.{Turn, DelayReq, Turned, Responded}}
 use Rattle.ptu_history.specs.Turns.{due_grants, is_due, is_turned, message_of, sent_record, turn_cmp}
 use Rattle.ptu_history.specs.Step.{answer_records, delay_answer, step}
 use Rattle.ptu_history.specs.Core.{core_step, table_step_moment}
 use Rattle.ptu_units.proofs.Keys.{same_lease-true}
-use Rattle.ptu_history.proofs.Lists.{filter-comm, list_any-filter}
-use Rattle.ptu_history.proofs.Order.{IsPermutation-in_order}
+use Rattle.ptu_history.proofs.{Lists.{filter-comm, list_any-filter}, Order.{IsPermutation-in_order}}
 use Rattle.ptu_laws.specs.Part.{is_of_clients, part_of_clients, part_of_table}
 use Rattle.ptu_laws.proofs.Parts.{filter-wider, in_order-agree, map-agree}
 
@@ -29,12 +27,10 @@ own_client c d k j e = eq-eqb (table_of d) (table_of c) (ap table_of (sym (same_
 
 concerns-part : (c : Client) (k : Kind) (r : Record) → concerns c k r ≡ true → is_of_clients (table_of c) r ≡ true
 concerns-part c k (Granted n d j l u) own = own_client c d k j own
-concerns-part c k (Short n d) own = absurd (false≢true own)
 concerns-part c k (Ended n d j) own = own_client c d k j own
-concerns-part c k (Capacity n capacity) own = absurd (false≢true own)
 concerns-part c k (Shed n d j) own = own_client c d k j own
-concerns-part c k (Looked n i) own = absurd (false≢true own)
 concerns-part c k (Sent n d j) own = own_client c d k j own
+concerns-part c k _ own = absurd (false≢true own)
 
 lease_records-part : (history : List Record) (c : Client) (k : Kind) → lease_records (part_of_clients (table_of c) history) c k ≡ lease_records history c k
 unfolding lease_records
@@ -98,12 +94,7 @@ standing-part j (Granted n c k l u ∷ history) = at (eqb (table_of c) j) refl (
         by_any : (b : Bool) → filter (is_on j) (cond b (standing history) (this ∷ standing history)) ≡ filter (is_on j) (standing history)
         by_any true = refl
         by_any false = ap (λ a. cond a (this ∷ filter (is_on j) (standing history)) (filter (is_on j) (standing history))) off
-standing-part j (Short n c ∷ history) = with_part j (Short n c) (part_of_clients j history) (standing history) (eqb (table_of c) j) refl (standing-part j history)
-standing-part j (Ended n c k ∷ history) = with_part j (Ended n c k) (part_of_clients j history) (standing history) (eqb (table_of c) j) refl (standing-part j history)
-standing-part j (Capacity n capacity ∷ history) = standing-part j history
-standing-part j (Shed n c k ∷ history) = with_part j (Shed n c k) (part_of_clients j history) (standing history) (eqb (table_of c) j) refl (standing-part j history)
-standing-part j (Looked n i ∷ history) = standing-part j history
-standing-part j (Sent n c k ∷ history) = with_part j (Sent n c k) (part_of_clients j history) (standing history) (eqb (table_of c) j) refl (standing-part j history)
+standing-part j (r ∷ history) = with_part j r (part_of_clients j history) (standing history) (is_of_clients j r) refl (standing-part j history)
 
 -- the test is of the table's own grants
 abbrev IsOn : ℕ → Grant → Type 0
@@ -136,9 +127,6 @@ message-part history j g on =
     (subst (λ i. sequence_number (part_of_clients i history) g.client g.kind ≡ sequence_number history g.client g.kind) (eqb-true (table_of g.client) j on) (sequence-part history g.client g.kind))
 
 module _ (history : List Record) (x j : ℕ) where
-  still_live : Grant → Bool
-  still_live g = ltb x g.until
-
   part : List Record
   part = part_of_clients j history
 
@@ -197,13 +185,8 @@ pub delay-same : (config : Config) (a b : List Record) (x : ℕ) (c : Client) �
 delay-same config a b x c same = sym (delay-part config a x c) ∙ ap (λ h. step config h x (DelayReq c)) same ∙ delay-part config b x c
 
 clients_of_table : (j : ℕ) (r : Record) → is_of_clients j r ≡ true → is_of_table j r ≡ true
-clients_of_table j (Granted n c k l u) e = e
-clients_of_table j (Short n c) e = e
-clients_of_table j (Ended n c k) e = e
-clients_of_table j (Capacity n capacity) e = e
-clients_of_table j (Shed n c k) e = e
 clients_of_table j (Looked n i) e = absurd (false≢true e)
-clients_of_table j (Sent n c k) e = e
+clients_of_table j _ e = e
 
 clients_same : (a b : List Record) (j : ℕ) → part_of_table j a ≡ part_of_table j b → part_of_clients j a ≡ part_of_clients j b
 clients_same a b j same =

@@ -3,7 +3,7 @@ use Rattle.std.proofs.Common.{◌≡◌, ◌∙◌, ℕ, ◌+◌, ◌≤◌, max
 use Rattle.std.proofs.lemmas.Bool.{false≢true}
 use Rattle.ptu_units.specs.declared.kind.{Kind.{Kind}, Kind.TheVariants.{Announce, Sync, DelayResp}}
 use Rattle.ptu_units.specs.declared.client.Client.{Client}
-use Rattle.ptu_history.specs.History.{Record, Granted, Short, Ended, Capacity, Shed, Looked, Sent, concerns, decides}
+use Rattle.ptu_history.specs.History.{Record, Granted, Ended, Shed, Sent, concerns, decides}
 use Rattle.ptu_history.specs.Lawful.{earliest, last_period}
 use Rattle.ptu_units.proofs.Keys.{same_lease-true}
 use Rattle.ptu_history.proofs.Renewals.{earliest_delay, earliest_sent}
@@ -23,11 +23,9 @@ earliest-sent_le history x c DelayResp due =
 -- a record that concerns the client and kind and does not decide on them is a message to them
 pub is-message : (c : Client) (k : Kind) (r : Record) → concerns c k r ≡ true → decides c k r ≡ false → (x : ℕ) × (r ≡ Sent x c k)
 is-message c k (Granted n d j l u) own other = absurd (false≢true (sym other ∙ own))
-is-message c k (Short n d) own other = absurd (false≢true own)
 is-message c k (Ended n d j) own other = absurd (false≢true (sym other ∙ own))
-is-message c k (Capacity n capacity) own other = absurd (false≢true own)
 is-message c k (Shed n d j) own other = absurd (false≢true (sym other ∙ own))
-is-message c k (Looked n j) own other = absurd (false≢true own)
 is-message c k (Sent n d j) own other =
     let is : (c ≡ d) × (k ≡ j) = same_lease-true c k d j own in
     (n, ap (λ e. Sent n e j) (sym is.0) ∙ ap (λ i. Sent n c i) (sym is.1))
+is-message c k _ own other = absurd (false≢true own)

@@ -1,25 +1,23 @@
 -- The payments of each client and kind lie one after the other in held time, before their messages.
 use Rattle.std.proofs.Common.{◌≡◌, ◌∙◌, ℕ, suc, ◌+◌, ◌<◌, ◌≤◌, max, ◌++◌, List, [], ◌∷◌, Bool, true, false, cond, leb, ltb, refl, sym, ap, subst, arith, Some, ℤ, append_assoc}
-use Rattle.std.specs.List.{All, AllPairs}
 use Rattle.std.proofs.lemmas.Bool.{and_parts, false≢true, leb-true, ltb-true, ltb-false}
 use Rattle.std.proofs.lemmas.List.{Elements.{All-nil, All-push, All-weaker}, Kept.{AllPairs-cons}}
-use Rattle.ptu_units.specs.{declared.kind.Kind.{Kind}, Log.{period_of}}
-use Rattle.ptu_units.specs.{declared.client.Client.{Client}, Client.{same_lease}}
-use Rattle.ptu_history.specs.History.{Record, Granted, Short, Ended, Capacity, Shed, Looked, Sent, concerns, decides, is_decision, moment_of, lease_records}
-use Rattle.ptu_history.specs.{Live.{last_decision, live}, Runs.{chain, continues}}
-use Rattle.ptu_history.specs.{Lawful.{earliest, last_period, lawful}, Verdict.{is_log_of}}
+use Rattle.std.specs.List.{All, AllPairs}
+use Rattle.ptu_units.specs.declared.{kind.Kind.{Kind}, client.Client.{Client}}
+use Rattle.ptu_units.specs.{Log.{period_of}, Client.{same_lease}}
+use Rattle.ptu_history.specs.History.{Record, Granted, Ended, Shed, Sent, concerns, decides, is_decision, moment_of, lease_records}
+use Rattle.ptu_history.specs.{Live.{last_decision, live}, Lawful.{earliest, last_period, lawful}}
+use Rattle.ptu_history.specs.{Runs.{chain, continues}, Verdict.{is_log_of}}
 use Rattle.ptu_history.specs.Held.{Payment, payment, payments, payments_after}
-use Rattle.ptu_history.proofs.PaymentLists.{payments-other, payments-sent}
-use Rattle.ptu_units.proofs.Keys.{same_lease-refl, same_lease-sym, same_lease-true}
-use Rattle.ptu_history.proofs.{Lists.{greatest_by-push}, Standing.{last_pushed}}
-use Rattle.ptu_history.proofs.Strangers.{chain-push, earliest-push}
+use Rattle.ptu_history.proofs.{PaymentLists.{payments-other, payments-sent}, Standing.{last_pushed}}
+use Rattle.ptu_history.proofs.{Lists.{greatest_by-push}, Strangers.{chain-push, earliest-push}}
 use Rattle.ptu_history.proofs.Renewals.{chain_is, earliest_new, earliest_same, last_period-granted}
+use Rattle.ptu_history.proofs.{AfterSteps.{chain-sent}, Members.{pairs_front, pairs_rest}}
+use Rattle.ptu_history.proofs.LiveGrants.{Continued, LiveGrant, continued, live-grant}
+use Rattle.ptu_units.proofs.Keys.{same_lease-refl, same_lease-sym, same_lease-true}
 use Rattle.ptu_laws.specs.{Sound.{last_sent, sent_part}, Paid.{IsBefore, IsPaid, is_held_at}}
 use Rattle.ptu_laws.proofs.Followed.{AllMayFollow, MayFollow, by_following, may-at, may-front, may-rest, own_sent}
 use Rattle.ptu_laws.proofs.{Stands.{log_range}, HeldTime.{held_at-new, held_at-push}}
-use Rattle.ptu_history.proofs.AfterSteps.{chain-sent}
-use Rattle.ptu_history.proofs.LiveGrants.{Continued, LiveGrant, continued, live-grant}
-use Rattle.ptu_history.proofs.Members.{pairs_front, pairs_rest}
 use Rattle.ptu_laws.proofs.Paced.{earliest-sent_le, is-message}
 
 -- a payment, as it is kept from record to record: its message is not after the last message of its client and kind
@@ -51,12 +49,7 @@ pub record KeepsPayments (history : List Record) : Type 0 where
 all_payments : (P : Payment → Type 0) (history : List Record) (r : Record) → All P (payments history) → ((x : ℕ) (c : Client) (k : Kind) → r ≡ Sent x c k → P (payment history x c k)) → All P (payments (history ++ r ∷ []))
 unfolding payments_after
 all_payments P history (Sent x c k) old new = subst (λ ps. All P ps) (sym (payments-sent history x c k)) (All-push P (payments history) (payment history x c k) old (new x c k refl))
-all_payments P history (Granted n c k l u) old new = subst (λ ps. All P ps) (sym (payments-other history (Granted n c k l u) refl)) old
-all_payments P history (Short n c) old new = subst (λ ps. All P ps) (sym (payments-other history (Short n c) refl)) old
-all_payments P history (Ended n c k) old new = subst (λ ps. All P ps) (sym (payments-other history (Ended n c k) refl)) old
-all_payments P history (Capacity n capacity) old new = subst (λ ps. All P ps) (sym (payments-other history (Capacity n capacity) refl)) old
-all_payments P history (Shed n c k) old new = subst (λ ps. All P ps) (sym (payments-other history (Shed n c k) refl)) old
-all_payments P history (Looked n j) old new = subst (λ ps. All P ps) (sym (payments-other history (Looked n j) refl)) old
+all_payments P history r old new = subst (λ ps. All P ps) (sym (payments-other history r refl)) old
 
 pairs_push : {A : Type 0} (R : A → A → Type 0) (xs : List A) (y : A) → AllPairs R xs → All (λ x. R x y) xs → AllPairs R (xs ++ y ∷ [])
 pairs_push R [] y pairs all = AllPairs-cons R y [] (All-nil (R y)) pairs
@@ -67,22 +60,14 @@ pairs_push R (x ∷ xs) y pairs all =
 pairs_payments : (history : List Record) (r : Record) → AllPairs IsBefore (payments history) → ((x : ℕ) (c : Client) (k : Kind) → r ≡ Sent x c k → All (λ p. IsBefore p (payment history x c k)) (payments history)) → AllPairs IsBefore (payments (history ++ r ∷ []))
 unfolding payments_after
 pairs_payments history (Sent x c k) old new = subst (λ ps. AllPairs IsBefore ps) (sym (payments-sent history x c k)) (pairs_push IsBefore (payments history) (payment history x c k) old (new x c k refl))
-pairs_payments history (Granted n c k l u) old new = subst (λ ps. AllPairs IsBefore ps) (sym (payments-other history (Granted n c k l u) refl)) old
-pairs_payments history (Short n c) old new = subst (λ ps. AllPairs IsBefore ps) (sym (payments-other history (Short n c) refl)) old
-pairs_payments history (Ended n c k) old new = subst (λ ps. AllPairs IsBefore ps) (sym (payments-other history (Ended n c k) refl)) old
-pairs_payments history (Capacity n capacity) old new = subst (λ ps. AllPairs IsBefore ps) (sym (payments-other history (Capacity n capacity) refl)) old
-pairs_payments history (Shed n c k) old new = subst (λ ps. AllPairs IsBefore ps) (sym (payments-other history (Shed n c k) refl)) old
-pairs_payments history (Looked n j) old new = subst (λ ps. AllPairs IsBefore ps) (sym (payments-other history (Looked n j) refl)) old
+pairs_payments history r old new = subst (λ ps. AllPairs IsBefore ps) (sym (payments-other history r refl)) old
 
 -- a decision is not before the messages of its client and kind
 decided-after : (history : List Record) (r : Record) (c : Client) (k : Kind) → MayFollow history r → decides c k r ≡ true → last_sent history c k ≤ moment_of r
 decided-after history (Granted n d j l u) c k may own = own_sent history n c d k j own may.0
-decided-after history (Short n d) c k may own = absurd (false≢true own)
 decided-after history (Ended n d j) c k may own = own_sent history n c d k j own may
-decided-after history (Capacity n capacity) c k may own = absurd (false≢true own)
 decided-after history (Shed n d j) c k may own = own_sent history n c d k j own may
-decided-after history (Looked n j) c k may own = absurd (false≢true own)
-decided-after history (Sent n d j) c k may own = absurd (false≢true own)
+decided-after history _ c k may own = absurd (false≢true own)
 
 undecided : (c : Client) (k : Kind) (r : Record) → concerns c k r ≡ false → decides c k r ≡ false
 undecided c k r other = at (is_decision r)

@@ -1,23 +1,19 @@
 -- What the messages of a client and kind take together is within the time that it holds.
 use Rattle.std.proofs.Common.{◌≡◌, ◌∙◌, ◌⊎◌, inl, inr, ℕ, zero, suc, ◌+◌, ◌-◌, ◌*◌, ◌<◌, ◌≤◌, ◌++◌, List, [], ◌∷◌, Bool, true, false, ◌&&◌, ◌||◌, cond, leb, refl, sym, ap, subst, arith, Some, ℤ, append_assoc, get_or}
-use Rattle.std.specs.{List.{All, AllPairs, list_any}, Ordering.{int_eq}}
 use Rattle.std.proofs.Math.Nat.{mul-add, mul_comm}
 use Rattle.std.proofs.lemmas.Bool.{and_from, and_parts, false≢true, leb-false, leb-true, or_left, or_right}
-use Rattle.std.proofs.lemmas.Bool.Decides.{Decides-int_eq}
-use Rattle.std.proofs.lemmas.List.Elements.{All-head, All-tail}
-use Rattle.ptu_units.specs.{declared.kind.Kind.{Kind}, Log.{period_of}}
-use Rattle.ptu_units.specs.{declared.client.Client.{Client}, Client.{same_lease}}
-use Rattle.ptu_history.specs.History.{Record, Granted, Sent}
-use Rattle.ptu_history.specs.{Live.{last_decision}, Lawful.{last_period}}
+use Rattle.std.proofs.lemmas.{Bool.Decides.{Decides-int_eq}, List.Elements.{All-head, All-tail}}
+use Rattle.std.specs.{List.{All, AllPairs, list_any}, Ordering.{int_eq}}
+use Rattle.ptu_units.specs.declared.{kind.Kind.{Kind}, client.Client.{Client}}
+use Rattle.ptu_units.specs.{Log.{period_of}, Client.{same_lease}}
+use Rattle.ptu_history.specs.{History.{Record, Granted, Sent}, Live.{last_decision}}
+use Rattle.ptu_history.specs.Lawful.{last_period}
 use Rattle.ptu_history.specs.Held.{Payment, Term, is_by, is_in_term, payment, payments, payments_after, terms}
 use Rattle.ptu_units.proofs.Keys.{same_lease-true}
-use Rattle.ptu_history.proofs.Renewals.{last_period-granted}
-use Rattle.ptu_history.proofs.Members.{pairs_front, pairs_rest}
-use Rattle.ptu_laws.specs.Paid.{IsBefore, IsPaid, is_held_at, is_term_at}
+use Rattle.ptu_history.proofs.{Renewals.{last_period-granted}, Members.{pairs_front, pairs_rest}}
+use Rattle.ptu_laws.specs.{Paid.{IsBefore, IsPaid, is_held_at, is_term_at}, Sound.{IsSound}}
 use Rattle.ptu_laws.specs.Served.{count_below, held_time, held_time_at, is_grant_at, is_held, is_own_term, is_sent_to, periods_sent, sent_at, sum_sent}
-use Rattle.ptu_laws.specs.Sound.{IsSound}
-use Rattle.ptu_laws.proofs.Followed.{AllMayFollow}
-use Rattle.ptu_laws.proofs.Payments.{message-paid, payments-apart}
+use Rattle.ptu_laws.proofs.{Followed.{AllMayFollow}, Payments.{message-paid, payments-apart}}
 use Rattle.ptu_laws.proofs.Stands.{follow-stand, stand-from}
 
 module _ (test : ℕ → Bool) where

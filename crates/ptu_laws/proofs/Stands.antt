@@ -1,22 +1,21 @@
 -- Sound lists of records, one record after the other, and that the core's histories are sound.
 use Rattle.std.proofs.Common.{◌≡◌, ◌∙◌, ℕ, zero, suc, ◌+◌, ◌*◌, ◌≤◌, ◌++◌, List, [], ◌∷◌, map, Bool, true, false, not, cond, eqb, leb, ltb, refl, sym, ap, subst, arith, append_assoc, get_or, ◌<◌, Result, Ok, Err, ℤ}
-use Rattle.std.specs.{List.{All, filter}, Prelude.{int_le, pos, T}}
-use Rattle.std.proofs.lemmas.{List.{append-nil}, Bool.{and_parts, eq-eqb, false≢true, leb-true}}
-use Rattle.std.proofs.lemmas.List.Elements.{All-head, All-tail, All-weaker}
-use Rattle.ptu_units.specs.{declared.kind.Kind.{Kind}, Kind.{kind_of}}
-use Rattle.ptu_units.specs.Log.{IsLogOf, least_log, rate_of}
-use Rattle.ptu_units.specs.{declared.client.Client.{Client}, Client.{same_lease, table_of}}
-use Rattle.ptu_history.specs.History.{Record, Granted, Short, Ended, Capacity, Shed, Looked, Sent, capacity_in_force}
+use Rattle.std.proofs.lemmas.{List.{append-nil}, List.Elements.{All-head, All-tail, All-weaker}}
+use Rattle.std.proofs.lemmas.Bool.{and_parts, eq-eqb, leb-true}
+use Rattle.std.specs.{List.{All, filter}, Prelude.{int_le, pos}}
+use Rattle.ptu_units.specs.{declared.kind.Kind.{Kind}, Client.{same_lease, table_of}}
+use Rattle.ptu_units.specs.Kind.{kind_of}
+use Rattle.ptu_units.specs.{Log.{IsLogOf, least_log, rate_of}, declared.client.Client.{Client}}
+use Rattle.ptu_history.specs.History.{Record, Granted, Ended, Capacity, Shed, Looked, Sent, capacity_in_force}
 use Rattle.ptu_history.specs.Moments.{book_moment, greatest_by, table_moment, table_part}
 use Rattle.ptu_history.specs.{Live.{Grant, live, live_grants, standing}, Lawful.{earliest, lawful}}
 use Rattle.ptu_history.specs.Verdict.{Config, Ask, OutsideCause, granted_seconds, is_log_of, others, profile, rate_sum, verdict, verdict_of, GrantedFor, ShortOf}
-use Rattle.ptu_history.specs.Events.{Event, Request, Cancel, Turn, DelayReq, Resize, Answer, Answered, NoGrant, TooSoon}
+use Rattle.ptu_history.specs.Events.{Event, Request, Cancel, Turn, DelayReq, Resize, Answer, Answered}
 use Rattle.ptu_history.specs.{Turns.{due_grants, sent_record}, Shedding.{shed_grants, shed_record}}
 use Rattle.ptu_history.specs.Step.{answer_records, delay_answer, verdict_records}
 use Rattle.ptu_history.specs.Core.{core_history, core_step, table_step_moment, book_step_moment}
 use Rattle.ptu_units.proofs.Keys.{eq-eqb-table, same_lease-true}
-use Rattle.ptu_history.proofs.Currents.{standing-shed}
-use Rattle.ptu_history.proofs.Lists.{filter-comm, greatest_by-push}
+use Rattle.ptu_history.proofs.{Currents.{standing-shed}, Lists.{filter-comm, greatest_by-push}}
 use Rattle.ptu_history.proofs.Moments.{book_step_moment-bounds, table_step_moment-bounds}
 use Rattle.ptu_history.proofs.{Rates.{rates-fit, table_below}, Verdicts.{is_log_of-true, to_T}}
 use Rattle.ptu_laws.specs.Sound.{IsSound, MayStand, last_sent, sent_part, sheds_at}
@@ -47,12 +46,10 @@ stand-from opening history sound = stand-rest opening history [] history refl so
 -- what stands has what payments want
 follow-one : (opening : ℕ) (before : List Record) (r : Record) (after : List Record) → MayStand opening before r after → MayFollow before r
 follow-one opening before (Granted n c k l u) after may = (may.0.1, is_log_of-true k l may.1)
-follow-one opening before (Short n c) after may = tt
 follow-one opening before (Ended n c k) after may = may.1
-follow-one opening before (Capacity x capacity) after may = tt
 follow-one opening before (Shed x c k) after may = may.1
-follow-one opening before (Looked x j) after may = tt
 follow-one opening before (Sent x c k) after may = may
+follow-one opening before _ after may = tt
 
 pub follow-stand : (opening : ℕ) (before rest : List Record) → AllStand opening before rest → AllMayFollow before rest
 follow-stand opening before [] all = tt
@@ -100,26 +97,17 @@ fewer-live x (Shed y c k ∷ more) history are =
     let e : rate_sum (live_grants (history ++ Shed y c k ∷ more) x) ≡ rate_sum (live_grants ((history ++ Shed y c k ∷ []) ++ more) x) = ap (λ h. rate_sum (live_grants h x)) (sym (append_assoc history (Shed y c k ∷ []) more)) in
     omega (arith, e, fewer-live x more (history ++ Shed y c k ∷ []) are, live-shed x y c k history)
 fewer-live x (Granted n c k l u ∷ more) history are = absurd are
-fewer-live x (Short n c ∷ more) history are = absurd are
-fewer-live x (Ended n c k ∷ more) history are = absurd are
-fewer-live x (Capacity n capacity ∷ more) history are = absurd are
-fewer-live x (Looked n j ∷ more) history are = absurd are
-fewer-live x (Sent n c k ∷ more) history are = absurd are
+fewer-live x (r ∷ more) history are = absurd are
 
 -- what stands before some records stands before more
 stand-longer : (opening : ℕ) (before : List Record) (r : Record) (xs ys : List Record) → MayStand opening before r xs → MayStand opening before r (xs ++ ys)
-stand-longer opening before (Granted n c k l u) xs ys may = may
-stand-longer opening before (Short n c) xs ys may = tt
-stand-longer opening before (Ended n c k) xs ys may = may
 stand-longer opening before (Capacity x capacity) xs ys may =
     let more : (more : List Record) × (sheds_at x (xs ++ ys) ≡ sheds_at x xs ++ more) × AreSheds more = sheds-more x xs ys in
     let fewer : rate_sum (live_grants ((before ++ Capacity x capacity ∷ sheds_at x xs) ++ more.0) x) ≤ rate_sum (live_grants (before ++ Capacity x capacity ∷ sheds_at x xs) x) = fewer-live x more.0 (before ++ Capacity x capacity ∷ sheds_at x xs) more.2 in
     let e : rate_sum (live_grants (before ++ Capacity x capacity ∷ sheds_at x (xs ++ ys)) x) ≡ rate_sum (live_grants ((before ++ Capacity x capacity ∷ sheds_at x xs) ++ more.0) x)
     = ap (λ rs. rate_sum (live_grants (before ++ Capacity x capacity ∷ rs) x)) more.1 ∙ ap (λ h. rate_sum (live_grants h x)) (sym (append_assoc before (Capacity x capacity ∷ sheds_at x xs) more.0)) in
     (may.0, omega (arith, may.1, fewer, e))
-stand-longer opening before (Shed x c k) xs ys may = may
-stand-longer opening before (Looked x j) xs ys may = tt
-stand-longer opening before (Sent x c k) xs ys may = may
+stand-longer opening before _ xs ys may = may
 
 pub stand-append : (opening : ℕ) (before xs ys : List Record) → AllStand opening before xs → AllStand opening (before ++ xs) ys → AllStand opening before (xs ++ ys)
 stand-append opening before [] ys first then = subst (λ h. AllStand opening h ys) (append-nil before) then
@@ -221,8 +209,7 @@ stand-sents opening x (g ∷ gs) before all = (all.0, stand-sents opening x gs (
 
 stand-answer : (opening x : ℕ) (c : Client) (a : Answer) (before : List Record) → AllMayFollow before (answer_records x c a) → AllStand opening before (answer_records x c a)
 stand-answer opening x c Answered before all = (all.0, tt)
-stand-answer opening x c NoGrant before all = tt
-stand-answer opening x c (TooSoon earliest) before all = tt
+stand-answer opening x c _ before all = tt
 
 tables_past : (history : List Record) (t j : ℕ) → j < 4 → table_moment history j ≤ book_step_moment history t
 tables_past history t zero below = (book_step_moment-bounds history t).2

@@ -1,18 +1,15 @@
 -- Every record of a step has the step's moment, which is not before the book's or the table's.
 use Rattle.std.proofs.Common.{◌≡◌, ℕ, ◌≤◌, ◌++◌, max, List, [], ◌∷◌, map, refl, arith, append_assoc, subst, sym}
 use Rattle.std.proofs.lemmas.List.{append-nil}
-use Rattle.ptu_units.specs.{declared.client.Client.{Client}}
-use Rattle.ptu_history.specs.History.{Record, Granted, Short, Ended, Capacity, Shed, Looked, Sent, moment_of}
+use Rattle.ptu_units.specs.declared.client.Client.{Client}
+use Rattle.ptu_history.specs.{History.{Record, Granted, moment_of}, Turns.{due_grants, sent_record}}
 use Rattle.ptu_history.specs.Moments.{book_moment, book_part, table_moment, table_part}
-use Rattle.ptu_history.specs.Live.{Grant}
-use Rattle.ptu_history.specs.Verdict.{Config, Verdict, verdict, GrantedFor, ShortOf, Outside}
-use Rattle.ptu_history.specs.Events.{Event, Request, Cancel, Turn, DelayReq, Resize, Answer, Answered, NoGrant, TooSoon}
-use Rattle.ptu_history.specs.{Turns.{due_grants, sent_record}, Shedding.{shed_grants, shed_record}}
+use Rattle.ptu_history.specs.{Live.{Grant}, Verdict.{Config, Verdict, verdict, Outside}}
+use Rattle.ptu_history.specs.Events.{Event, Request, Cancel, Turn, DelayReq, Resize, Answer, Answered}
+use Rattle.ptu_history.specs.{Shedding.{shed_grants, shed_record}, Core.{core_step, core_history}}
 use Rattle.ptu_history.specs.Step.{answer_records, delay_answer, step, verdict_records}
-use Rattle.ptu_history.specs.Core.{core_step, core_history}
 use Rattle.ptu_history.proofs.{Lists.{by_push}, Histories.{history-event, history-none}}
-use Rattle.ptu_history.proofs.Moments.{book_moment-push, table_moment-push}
-use Rattle.ptu_history.proofs.Moments.{table_part-le}
+use Rattle.ptu_history.proofs.Moments.{book_moment-push, table_moment-push, table_part-le}
 
 -- each of the records has this moment
 abbrev pub AllAt : ℕ → List Record → Type 0
@@ -24,14 +21,12 @@ map_at x to is [] = tt
 map_at x to is (g ∷ gs) = (is g, map_at x to is gs)
 
 verdict_at : (x : ℕ) (c : Client) (v : Verdict) → AllAt x (verdict_records x c v)
-verdict_at x c (GrantedFor k l seconds until) = (refl, tt)
-verdict_at x c (ShortOf k l others rate capacity) = (refl, tt)
 verdict_at x c (Outside cause) = tt
+verdict_at x c _ = (refl, tt)
 
 answer_at : (x : ℕ) (c : Client) (a : Answer) → AllAt x (answer_records x c a)
 answer_at x c Answered = (refl, tt)
-answer_at x c NoGrant = tt
-answer_at x c (TooSoon earliest) = tt
+answer_at x c _ = tt
 
 -- the records of a step have its moment
 pub step-at : (config : Config) (history : List Record) (x : ℕ) (event : Event) → AllAt x (step config history x event).records
@@ -43,12 +38,7 @@ step-at config history x (Resize capacity) = (refl, map_at x (shed_record x) (λ
 
 pub book_part-le : (r : Record) → book_part r ≤ moment_of r
 book_part-le (Granted n c k l u) = omega arith
-book_part-le (Short n c) = omega arith
-book_part-le (Ended n c k) = omega arith
-book_part-le (Capacity n capacity) = omega arith
-book_part-le (Shed n c k) = omega arith
-book_part-le (Looked n j) = omega arith
-book_part-le (Sent n c k) = omega arith
+book_part-le _ = omega arith
 
 -- records of a moment leave the book's moment at most there
 pub book_moment-at : (x : ℕ) (rs history : List Record) → AllAt x rs → book_moment history ≤ x → book_moment (history ++ rs) ≤ x

@@ -1,22 +1,21 @@
 -- A message of the core is not before any record of its table, so not before the start of its grant.
 use Rattle.std.proofs.Common.{◌≡◌, ◌∙◌, ℕ, ◌<◌, ◌≤◌, max, ◌++◌, List, [], ◌∷◌, map, Bool, true, false, cond, eqb, refl, sym, ap, subst, arith, append_assoc, Some, ℤ}
+use Rattle.std.proofs.lemmas.{List.{append-nil}, List.Elements.{All-head, All-tail}}
+use Rattle.std.proofs.lemmas.Bool.{false≢true}
 use Rattle.std.specs.List.{All}
-use Rattle.std.proofs.lemmas.{List.{append-nil}, Bool.{false≢true}}
-use Rattle.std.proofs.lemmas.List.Elements.{All-head, All-tail}
 use Rattle.ptu_units.specs.declared.kind.Kind.{Kind}
 use Rattle.ptu_units.specs.{declared.client.Client.{Client}, Client.{same_lease, table_of}}
-use Rattle.ptu_history.specs.History.{Record, Granted, Short, Ended, Capacity, Shed, Looked, Sent, decides, lease_records, moment_of}
+use Rattle.ptu_history.specs.History.{Record, Granted, Ended, Capacity, Shed, Looked, Sent, decides, lease_records, moment_of}
 use Rattle.ptu_history.specs.{Moments.{table_moment, table_part}, Live.{Grant, last_decision}}
-use Rattle.ptu_history.specs.Verdict.{Config, Verdict, GrantedFor, ShortOf, Outside, verdict}
-use Rattle.ptu_history.specs.Events.{Event, Request, Cancel, Turn, DelayReq, Resize, Answer, Answered, NoGrant, TooSoon}
+use Rattle.ptu_history.specs.Verdict.{Config, Verdict, Outside, verdict}
+use Rattle.ptu_history.specs.Events.{Event, Request, Cancel, Turn, DelayReq, Resize, Answer, Answered}
 use Rattle.ptu_history.specs.{Turns.{due_grants, sent_record}, Shedding.{shed_grants, shed_record}}
 use Rattle.ptu_history.specs.Step.{answer_records, delay_answer, verdict_records}
 use Rattle.ptu_history.specs.Core.{core_history, core_step, table_step_moment, book_step_moment}
 use Rattle.ptu_units.proofs.Keys.{eq-eqb-table, same_lease-true}
-use Rattle.ptu_history.proofs.Lists.{by_push}
-use Rattle.ptu_history.proofs.LiveGrants.{LiveGrant, live-grant}
+use Rattle.ptu_history.proofs.{Lists.{by_push}, Standing.{last_pushed}}
+use Rattle.ptu_history.proofs.{LiveGrants.{LiveGrant, live-grant}, Orders.{due_grants-table}}
 use Rattle.ptu_history.proofs.Moments.{table_moment-push, table_step_moment-bounds}
-use Rattle.ptu_history.proofs.{Orders.{due_grants-table}, Standing.{last_pushed}}
 use Rattle.ptu_laws.proofs.{Stands.{sent-live, sound-core}, Steps.{by_events, table_moment-at}}
 
 -- a message is not before the moment of its client's table
@@ -45,9 +44,8 @@ timely-sents x j (g ∷ gs) before own past = (
 )
 
 timely-verdict : (before : List Record) (x : ℕ) (c : Client) (v : Verdict) → AllTimely before (verdict_records x c v)
-timely-verdict before x c (GrantedFor k l seconds until) = (tt, tt)
-timely-verdict before x c (ShortOf k l others rate capacity) = (tt, tt)
 timely-verdict before x c (Outside cause) = tt
+timely-verdict before x c _ = (tt, tt)
 
 timely-sheds : (x : ℕ) (gs : List Grant) (before : List Record) → AllTimely before (map (shed_record x) gs)
 timely-sheds x [] before = tt
@@ -55,8 +53,7 @@ timely-sheds x (g ∷ gs) before = (tt, timely-sheds x gs (before ++ shed_record
 
 timely-answer : (x : ℕ) (c : Client) (a : Answer) (before : List Record) → table_moment before (table_of c) ≤ x → AllTimely before (answer_records x c a)
 timely-answer x c Answered before past = (past, tt)
-timely-answer x c NoGrant before past = tt
-timely-answer x c (TooSoon earliest) before past = tt
+timely-answer x c _ before past = tt
 
 timely-step : (config : Config) (history : List Record) (t : ℕ) (event : Event) → AllTimely history (core_step config history t event).records
 timely-step config history t (Request c ask) = timely-verdict history (table_step_moment history t (table_of c)) c (verdict config history (table_step_moment history t (table_of c)) c ask)
@@ -83,12 +80,9 @@ of_table n c d k j own =
 -- a decision counts for its client's table
 decision-part : (c : Client) (k : Kind) (r : Record) → decides c k r ≡ true → moment_of r ≤ table_part (table_of c) r
 decision-part c k (Granted n d j l u) own = of_table n c d k j own
-decision-part c k (Short n d) own = absurd (false≢true own)
 decision-part c k (Ended n d j) own = of_table n c d k j own
-decision-part c k (Capacity n capacity) own = absurd (false≢true own)
 decision-part c k (Shed n d j) own = of_table n c d k j own
-decision-part c k (Looked n j) own = absurd (false≢true own)
-decision-part c k (Sent n d j) own = absurd (false≢true own)
+decision-part c k _ own = absurd (false≢true own)
 
 nothing-past : (c : Client) (k : Kind) (r : Record) → last_decision [] c k ≡ Some r → moment_of r ≤ table_moment [] (table_of c)
 unfolding last_decision lease_records

@@ -6,7 +6,7 @@ use Rattle.std.proofs.lemmas.List.Elements.{All-cons, All-contains, All-nil, All
 use Rattle.ptu_units.specs.declared.kind.{Kind.{Kind}, Kind.TheVariants.{Announce, Sync, DelayResp}}
 use Rattle.ptu_units.specs.Log.{IsLogOf, period_of, rate_of}
 use Rattle.ptu_units.specs.{declared.client.Client.{Client}, Client.{table_of}}
-use Rattle.ptu_history.specs.History.{Record, Granted, Short, Ended, Capacity, Shed, Looked, Sent, concerns, decides, lease_records, moment_of}
+use Rattle.ptu_history.specs.History.{Record, Granted, Short, Ended, Capacity, Looked, Sent, concerns, decides, lease_records, moment_of}
 use Rattle.ptu_history.specs.{Counts.{is_grant}, Moments.{greatest_by, table_moment, table_part}}
 use Rattle.ptu_history.specs.{Live.{Grant, is_live, is_of, last_decision, live}, Runs.{chain, continues, sent_in_chain}}
 use Rattle.ptu_history.specs.Lawful.{earliest, earliest_of, last_period, lawful}
@@ -25,7 +25,8 @@ use Rattle.ptu_history.proofs.Orders.{due_grants-distinct, due_grants-table}
 use Rattle.ptu_history.proofs.Renewals.{chain_is, earliest_new, earliest_same, earliest_sent, last_period-granted}
 use Rattle.ptu_history.proofs.Strangers.{chain-push, earliest-push}
 use Rattle.ptu_laws.specs.{Served.{is_sent_to}, Turned.{IsInEach, is_turn_of, sent_moments, turn_moments, turns_after}}
-use Rattle.ptu_laws.proofs.Covered.{in_any, rate_times_period}
+use Rattle.ptu_units.proofs.Tables.{rate-mul-period}
+use Rattle.ptu_laws.proofs.Covered.{in_any}
 use Rattle.ptu_laws.proofs.Followed.{AllMayFollow, MayFollow, by_following}
 use Rattle.ptu_laws.proofs.{Paced.{is-message}, Stands.{follow-core, log_range}, Timely.{of_table}}
 
@@ -66,12 +67,7 @@ sent-each c k x (g ∷ gs) e = at (is_of c k g) e (sent-each c k x gs)
 -- no message is after the moment of its client's table
 sent-part : (c : Client) (k : Kind) (r : Record) → is_sent_to c k r ≡ true → moment_of r ≤ table_part (table_of c) r
 sent-part c k (Sent x d j) own = of_table x c d k j own
-sent-part c k (Granted n d j l u) own = absurd (false≢true own)
-sent-part c k (Short n d) own = absurd (false≢true own)
-sent-part c k (Ended n d j) own = absurd (false≢true own)
-sent-part c k (Capacity n capacity) own = absurd (false≢true own)
-sent-part c k (Shed n d j) own = absurd (false≢true own)
-sent-part c k (Looked n j) own = absurd (false≢true own)
+sent-part c k _ own = absurd (false≢true own)
 
 sent-past : (c : Client) (k : Kind) (history : List Record) → All (λ x. x ≤ table_moment history (table_of c)) (sent_moments history c k)
 unfolding sent_moments table_moment
@@ -323,16 +319,13 @@ module _ (c : Client) (k : Kind) (turned : is_turned k ≡ true) where
 
   goes-event : (config : Config) (turns : List ℕ) (history : List Record) (t : ℕ) (event : Event) → Goes turns history →
       Goes (turns ++ cond (is_turn_of (table_of c) event) (core_moment history t event ∷ []) []) (history ++ (core_step config history t event).records)
-  goes-event config turns history t (Request d ask) was = goes-quiet config turns history t (Request d ask) was
-  goes-event config turns history t (Cancel d j) was = goes-quiet config turns history t (Cancel d j) was
   goes-event config turns history t (Turn j) was = at (eqb j (table_of c)) refl
     where
       at : (b : Bool) → eqb j (table_of c) ≡ b → Goes (turns ++ cond b (core_moment history t (Turn j) ∷ []) []) (history ++ (core_step config history t (Turn j)).records)
       at true own =
           subst (λ i. Goes (turns ++ core_moment history t (Turn i) ∷ []) (history ++ (core_step config history t (Turn i)).records)) (sym (eqb-true j (table_of c) own)) (goes-turn config turns history t was)
       at false other = goes-quiet config turns history t (Turn j) was
-  goes-event config turns history t (DelayReq d) was = goes-quiet config turns history t (DelayReq d) was
-  goes-event config turns history t (Resize capacity) was = goes-quiet config turns history t (Resize capacity) was
+  goes-event config turns history t event was = goes-quiet config turns history t event was
 
   none-goes : (config : Config) → Goes (turn_moments config [] (table_of c)) []
   unfolding turn_moments turns_after last_decision lease_records
@@ -369,12 +362,11 @@ module _ (c : Client) (k : Kind) where
   long : (history : List Record) → AllMayFollow [] history → (n : ℕ) (l : ℤ) (u : ℕ) → last_decision history c k ≡ Some (Granted n c k l u) → 0 < period_of l
   long history follow n l u last =
       let range : IsLogOf k l = log_range k l (by_following InRange range-push [] history follow none_in_range n l u last) in
-      positive (rate_of l) (period_of l) (rate_times_period l (in_any k l range).0 (in_any k l range).1)
+      positive (rate_of l) (period_of l) (rate-mul-period l (in_any k l range))
 
 turned-kind : (k : Kind) → k ≢ DelayResp → is_turned k ≡ true
-turned-kind Announce other = refl
-turned-kind Sync other = refl
 turned-kind DelayResp other = absurd (other refl)
+turned-kind _ other = refl
 
 -- each turn that comes a period after a moment of the chain finds a message since then, or sends one
 pub met-by-turn : (config : Config) (events : List (ℕ × Event)) (c : Client) (k : Kind) (n : ℕ) (l : ℤ) (u y z : ℕ) → k ≢ DelayResp → last_decision (core_history config events) c k ≡ Some (Granted n c k l u) →

@@ -1,18 +1,11 @@
 -- The part of a history that belongs to one table (the project's own choice).
-use Rattle.std.specs.{Prelude.{ℕ, Bool, false, ◌==◌, List}, List.{filter}}
-use Rattle.ptu_units.specs.Client.{table_of}
-use Rattle.ptu_history.specs.History.{Record, Granted, Short, Ended, Capacity, Shed, Looked, Sent}
-use Rattle.ptu_history.specs.Moments.{is_of_table}
+use Rattle.std.specs.{Prelude.{ℕ, Bool, false, List}, List.{filter}}
+use Rattle.ptu_history.specs.{History.{Record, Looked}, Moments.{is_of_table}}
 
 -- the record is of a client of the table
 abbrev pub is_of_clients : ℕ → Record → Bool
-is_of_clients j (Granted n c k l u) = table_of c == j
-is_of_clients j (Short n c) = table_of c == j
-is_of_clients j (Ended n c k) = table_of c == j
-is_of_clients j (Capacity x capacity) = false
-is_of_clients j (Shed x c k) = table_of c == j
 is_of_clients j (Looked x i) = false
-is_of_clients j (Sent x c k) = table_of c == j
+is_of_clients j r = is_of_table j r
 
 -- the records of the table's clients
 abbrev pub part_of_clients : ℕ → List Record → List Record

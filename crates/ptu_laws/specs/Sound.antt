@@ -3,7 +3,7 @@
 use Rattle.std.specs.Prelude.{◌≡◌, ℕ, ◌+◌, ◌≤◌, List, [], ◌∷◌, ◌++◌, IsTrue, ◌==◌, if◌then◌else◌}
 use Rattle.ptu_units.specs.{declared.kind.Kind.{Kind}, Log.{IsLogOf, rate_of}}
 use Rattle.ptu_units.specs.{declared.client.Client.{Client}, Client.{same_lease}}
-use Rattle.ptu_history.specs.History.{Record, Granted, Short, Ended, Capacity, Shed, Looked, Sent, capacity_in_force}
+use Rattle.ptu_history.specs.History.{Record, Granted, Ended, Capacity, Shed, Sent, capacity_in_force}
 use Rattle.ptu_history.specs.{Moments.{book_moment, greatest_by}, Live.{live_grants}}
 use Rattle.ptu_history.specs.{Lawful.{lawful}, Verdict.{others, rate_sum}}
 
@@ -33,14 +33,13 @@ abbrev pub MayStand : ℕ → List Record → Record → List Record → Type 0
 MayStand opening before (Granted n c k l u) after =
     IsInOrder before n c k × IsLogOf k l
     × (others before n c k + rate_of l ≤ capacity_in_force opening before)
-MayStand opening before (Short n c) after = Unit {0}
 MayStand opening before (Ended n c k) after = IsInOrder before n c k
 MayStand opening before (Capacity x capacity) after =
     (book_moment before ≤ x)
     × (rate_sum (live_grants (before ++ Capacity x capacity ∷ sheds_at x after) x) ≤ capacity)
 MayStand opening before (Shed x c k) after = IsInOrder before x c k
-MayStand opening before (Looked x j) after = Unit {0}
 MayStand opening before (Sent x c k) after = IsTrue (lawful before x c k)
+MayStand opening before _ after = Unit {0}
 
 -- each record of the list may stand where it stands, with the capacity that was in force before all
 pub record IsSound (opening : ℕ) (history : List Record) : Type 0 where

@@ -9,9 +9,8 @@ ghost use Rattle.ptu_units.specs.{declared.kind.Kind.TheVariants.{DelayResp}, Cl
 ghost use Rattle.ptu_units.specs.{declared.client.Client.{Client}, Time.{second}};
 ghost use Rattle.ptu_history.specs.History.{Record, Granted, Capacity, Sent, capacity_in_force, is_sent, moment_of};
 ghost use Rattle.ptu_history.specs.Live.{Grant, last_decision, live, live_grants};
-ghost use Rattle.ptu_history.specs.{Lawful.{earliest}, Runs.{chain}};
+ghost use Rattle.ptu_history.specs.{Lawful.{earliest}, Moments.{book_moment}, Runs.{chain}};
 ghost use Rattle.ptu_history.specs.Verdict.{Config, Ask, others, profile, rate_sum, verdict};
-ghost use Rattle.ptu_history.specs.Moments.{book_moment};
 ghost use Rattle.ptu_history.specs.Events.{Event, Request, Turn, DelayReq, Outcome, Decided};
 ghost use Rattle.ptu_history.specs.{Shedding.{shed_record}, Step.{step}};
 ghost use Rattle.ptu_history.specs.Core.{core_moment, core_step, core_history, core_outcomes};

@@ -1,35 +1,22 @@
 -- What a command makes of a grandmaster and its pools.
-use Rattle.std.proofs.Common.{◌≡◌, ◌∙◌, ℕ, ◌-◌, ◌<◌, ◌≤◌, All, true, false, cond, List, [], ◌∷◌, ◌++◌, length, map, Option, Some, None, IfSome, refl, sym, ap, subst, arith}
-use Rattle.std.proofs.lemmas.{Bool.{le-leb, lt-leb}, List.{map-append}}
+use Rattle.std.proofs.Common.{◌≡◌, ◌∙◌, ℕ, ◌-◌, ◌≤◌, All, true, cond, List, [], ◌∷◌, ◌++◌, length, map, Option, Some, None, refl, sym, ap, subst, arith, zero, suc, slice_get, length-append}
+use Rattle.std.proofs.lemmas.{Bool.{le-leb}, List.Elements.{recursion_from_All}, List.{map-append}}
 use Rattle.ptu_outside.specs.MemoryPort.{MemoryPort}
 use Rattle.ptu_report.specs.Rules.{IsOutcome, Outcome, Refuses}
 use Rattle.ptu_script.specs.declared.command.GrandmasterSetup.{GrandmasterSetup}
-use Rattle.ptu_pool_run.specs.{declared.pool.Pool.{Pool}, Events.{PoolEvent, Turned}, Refusal.{Share}}
-use Rattle.ptu_pool_run.specs.PoolsStanding.{KeptPools}
-use Rattle.ptu_pool_run.specs.declared.cause.PoolCause.{PoolCause}
-use Rattle.ptu_pool_run.specs.declared.cause.PoolCause.TheVariants.{Number, Order}
-use Rattle.ptu_pool_run.specs.{Output.{pool_line_text}, declared.pouring.Pouring.{Pouring}}
-use Rattle.ptu_pool_run.specs.Reading.{At, Told, behind_pools, pool_events, happened, told_setup, sold, sold_by, turned}
-use Rattle.ptu_pool_run.specs.{Selling.{selling_refusal}, Sending.{lines_of_event}}
+use Rattle.ptu_pool_run.specs.{declared.pool.Pool.{Pool}, Events.{PoolEvent, Turned}}
+use Rattle.ptu_pool_run.specs.{Refusal.{Share}, Sending.{lines_of_event}, Output.{pool_line_text}}
+use Rattle.ptu_pool_run.specs.PoolsStanding.{KeptPools, StandFor, ports_of_all}
+use Rattle.ptu_pool_run.specs.declared.{cause.PoolCause.{PoolCause}, pouring.Pouring.{Pouring}}
+use Rattle.ptu_pool_run.specs.declared.cause.PoolCause.TheVariants.{Number}
+use Rattle.ptu_pool_run.specs.Reading.{At, Told, behind_pools, pool_events, happened, turned}
 use Rattle.ptu_pool_run.specs.Standing.{AreSold, HasHappened, HaveSold, StandsFor, has_events, pools_of}
-use Rattle.ptu_pool_run.proofs.Sold.{none_share}
-
--- ---- the grandmaster is set up
-
-pub set_up_again : (told : Told) (setup before : GrandmasterSetup) (p after : Pouring) → StandsFor p told → p.setup ≡ Some before →
-    IsOutcome (told_setup told setup told.setup) (StandsFor after) [] (Some Order)
-set_up_again told setup before p after s is = subst (λ o. IsOutcome (told_setup told setup o) (StandsFor after) [] (Some Order)) (sym (s.setup ∙ is)) refl
+use Rattle.ptu_pool_run.proofs.{Lent.{AllPorts}, Places.{none_share}}
+use Rattle.std.specs.List.{AllByRecursion}
+use Rattle.ptu_grandmaster.specs.Gm.{KeptGm}
+use Rattle.ptu_nodes.specs.Standing.{IsIdle, IsUnfailing, setup_config}
 
 -- ---- a pool is sold
-
-pub sold_are : (p : Pouring) (told : Told) → StandsFor p told → told.pools ≡ pools_of p.pools
-sold_are p told s = by p.setup p.pools s.sold
-  where
-    by : (o : Option GrandmasterSetup) (k : Option (KeptPools MemoryPort)) → HaveSold o k told → told.pools ≡ pools_of k
-    by None None h = h.0
-    by (Some x) None h = h.0
-    by None (Some kept) h = absurd h
-    by (Some x) (Some kept) h = h.0
 
 pub share_of : (p : Pouring) (told : Told) (setup : GrandmasterSetup) → StandsFor p told → p.setup ≡ Some setup → Share setup.capacity (pools_of p.pools)
 share_of p told setup s is = by p.pools (subst (λ o. HaveSold o p.pools told) is s.sold)
@@ -38,38 +25,25 @@ share_of p told setup s is = by p.pools (subst (λ o. HaveSold o p.pools told) i
     by None h = none_share setup.capacity
     by (Some kept) h = h.1.share
 
--- where nothing has happened
-none_happened : (events : List At) → has_events events ≡ false → events ≡ []
-none_happened [] e = refl
-none_happened (event ∷ events) e = absurd (let never : true ≡ false = e in cc)
+-- ---- pools that were just sold
 
-module _ (told : Told) (pool : Pool) (setup : GrandmasterSetup) (p : Pouring) (s : StandsFor p told) (is : p.setup ≡ Some setup) (begun : p.has_begun ≡ false) where
-  abbrev cause : Option PoolCause
-  cause = selling_refusal setup.capacity (pools_of p.pools) pool
+-- what is so of all ports is so of those of each grandmaster
+by_ports : (Q : MemoryPort → Type 0) (gms : List (KeptGm MemoryPort)) → AllByRecursion Q (ports_of_all gms) → (i : ℕ) (gm : KeptGm MemoryPort) → slice_get gms i ≡ Some gm → AllPorts Q gm
+by_ports Q [] all i gm is = absurd cc
+by_ports Q (g ∷ gms) (e0, (e1, (e2, (e3, (e4, rest))))) zero gm is = let same : g ≡ gm = cc in subst (AllPorts Q) same (e0, e1, e2, e3, e4)
+by_ports Q (g ∷ gms) (e0, (e1, (e2, (e3, (e4, rest))))) (suc i) gm is = by_ports Q gms rest i gm is
 
-  no_events : told.events ≡ []
-  no_events = none_happened told.events (sym s.begun ∙ begun)
-
-  outcome_is : sold told pool told.setup told.events ≡ sold_by told pool cause
-  outcome_is =
-      ap (λ o. sold told pool o told.events) (s.setup ∙ is) ∙ ap (sold told pool (Some setup)) no_events
-      ∙ ap (λ l. sold_by told pool (selling_refusal setup.capacity l pool)) (sold_are p told s)
-
-  pub sold_refused : (found : PoolCause) (after : Pouring) → cause ≡ Some found → IsOutcome (sold told pool told.setup told.events) (StandsFor after) [] (Some found)
-  sold_refused found after e = subst (λ o. IsOutcome o (StandsFor after) [] (Some found)) (sym (outcome_is ∙ ap (sold_by told pool) e)) refl
-
-  pub sold_more : (kept : KeptPools MemoryPort) → cause ≡ None → kept.pools ≡ pools_of p.pools ++ pool ∷ [] → AreSold setup kept [] →
-      IsOutcome (sold told pool told.setup told.events) (StandsFor (record p { pools = Some kept })) [] None
-  sold_more kept e pools_are are_sold =
-      subst (λ o. IsOutcome o (StandsFor (record p { pools = Some kept })) [] None) (sym (outcome_is ∙ ap (sold_by told pool) e)) (
-        record {
-          setup = s.setup;
-          begun = s.begun;
-          sold = subst (λ o. HaveSold o (Some kept) (record told { pools = told.pools ++ pool ∷ [] })) (sym is)
-              (ap (λ l. l ++ pool ∷ []) (sold_are p told s) ∙ sym pools_are, subst (λ (l : List At). AreSold setup kept (pool_events l)) (sym no_events) are_sold);
-        },
-        refl,
-      )
+pub sold_fresh : (setup : GrandmasterSetup) (before : List Pool) (pool : Pool) (kept : KeptPools MemoryPort) (ports : List MemoryPort) →
+    Share setup.capacity (before ++ pool ∷ []) →
+    kept.pools ≡ before ++ pool ∷ [] → ports_of_all kept.gms ≡ ports → All (λ (port : MemoryPort). port.sent ≡ []) ports → All (λ (port : MemoryPort). port.failing_sends ≡ []) ports → StandFor (setup_config setup) kept [] →
+    AreSold setup kept []
+sold_fresh setup before pool kept ports share pools_are ports_are idle sure stand = record {
+  some = subst (λ (l : List Pool). 1 ≤ length l) (sym pools_are) (omega (arith, length-append before (pool ∷ [])));
+  share = subst (Share setup.capacity) (sym pools_are) share;
+  stand = stand;
+  idle = by_ports IsIdle kept.gms (recursion_from_All IsIdle (ports_of_all kept.gms) (subst (All (λ (port : MemoryPort). port.sent ≡ [])) (sym ports_are) idle));
+  sure = by_ports IsUnfailing kept.gms (recursion_from_All IsUnfailing (ports_of_all kept.gms) (subst (All (λ (port : MemoryPort). port.failing_sends ≡ [])) (sym ports_are) sure));
+}
 
 -- ---- an event happens
 
@@ -115,13 +89,6 @@ module _ (told : Told) (p : Pouring) (kept : KeptPools MemoryPort) (s : StandsFo
     has.says ∙ ap (λ (l : List Pool). map pool_line_text (lines_of_event h.setup l (pool_events told.events) line event)) (sym h.pools),
   )
 
-  pub came_so : (line : ℕ) (event : PoolEvent) (kept' : KeptPools MemoryPort) (texts' : List (List ℕ)) →
-      HasHappened h.setup line (pool_events told.events) event kept kept' [] texts' →
-      IsOutcome (behind_pools told.setup told.pools (happened told line event)) (StandsFor (record { setup = p.setup; pools = Some kept'; has_begun = true })) texts' None
-  came_so line event kept' texts' has =
-      subst (λ o. IsOutcome o (StandsFor (record { setup = p.setup; pools = Some kept'; has_begun = true })) texts' None) (sym (behind_them (happened told line event)))
-      (happened_so line event kept' texts' has)
-
   pub turned_so : (line t number table : ℕ) (kept' : KeptPools MemoryPort) (texts' : List (List ℕ)) → number ≤ length kept.pools →
       HasHappened h.setup line (pool_events told.events) (Turned t (number - 1) table) kept kept' [] texts' →
       IsOutcome (behind_pools told.setup told.pools (turned told line t number table)) (StandsFor (record { setup = p.setup; pools = Some kept'; has_begun = true })) texts' None
@@ -130,11 +97,3 @@ module _ (told : Told) (p : Pouring) (kept : KeptPools MemoryPort) (s : StandsFo
       (sym (behind_them (turned told line t number table)
       ∙ ap (λ b. cond b (happened told line (Turned t (number - 1) table) h.setup) (Refuses Number)) (le-leb number (length told.pools) (subst (λ (l : List Pool). number ≤ length l) (sym h.pools) le))))
       (happened_so line (Turned t (number - 1) table) kept' texts' has)
-
-  pub no_such_pool : (line t number table : ℕ) (after : Pouring) (texts : List (List ℕ)) → length kept.pools < number →
-      IsOutcome (behind_pools told.setup told.pools (turned told line t number table)) (StandsFor after) texts (Some Number)
-  no_such_pool line t number table after texts lt =
-      subst (λ o. IsOutcome o (StandsFor after) texts (Some Number))
-      (sym (behind_them (turned told line t number table)
-      ∙ ap (λ b. cond b (happened told line (Turned t (number - 1) table) h.setup) (Refuses Number)) (lt-leb number (length told.pools) (subst (λ (l : List Pool). length l < number) (sym h.pools) lt))))
-      refl

@@ -1,30 +1,28 @@
 -- What has happened to pools at a line.
-use Rattle.std.proofs.Common.{◌≡◌, ◌+◌, ◌*◌, ◌∙◌, ◌⊎◌, All, inl, inr, ℕ, ◌≤◌, true, false, List, [], ◌∷◌, ◌++◌, length, map, position, set, slice_get, Option, Some, None, Result, Ok, Err, refl, sym, ap, subst, arith}
-use Rattle.std.specs.Result.{OnOk}
+use Rattle.std.proofs.Common.{◌≡◌, ◌≢◌, ◌+◌, ◌*◌, ◌∙◌, ◌⊎◌, inl, inr, ℕ, ◌≤◌, true, false, List, [], ◌∷◌, ◌++◌, length, map, position, set, slice_get, Option, Some, None, Result, Ok, Err, refl, sym, ap, subst, arith}
 use Rattle.std.proofs.lemmas.{Bool.{both_ways, cases_eq}, Simd.{map-map}}
-use Rattle.ptu_outside.specs.{Departure.{Departure}, declared.port.Port.{Ghosts as Ports}}
-use Rattle.ptu_outside.specs.MemoryPort.{IsSure, MemoryPort}
+use Rattle.std.specs.Result.{OnOk}
+use Rattle.ptu_outside.specs.Departure.{Departure}
+use Rattle.ptu_outside.specs.{declared.port.Port.{Ghosts as Ports}, MemoryPort.{IsSure, MemoryPort}}
 use Rattle.ptu_shard.specs.declared.answered.Turned.{Turned as TableTurned}
 use Rattle.ptu_profile.specs.declared.grandmaster.GmConfig.{GmConfig}
 use Rattle.ptu_gm_messages.specs.Items.{heard_in}
 use Rattle.ptu_grandmaster.specs.{declared.outcome.Taken.{Taken}, Gm.{KeptGm, StandsFor, table_at}}
-use Rattle.ptu_pool_run.specs.{declared.pool.Pool.{Pool}, Changes.{TookDatagram, TookTurn}}
-use Rattle.ptu_pool_run.specs.{Events.{PoolEvent, Came, Turned}, Pool.{AreApart, is_in, is_in_at}}
-use Rattle.ptu_pool_run.specs.Refusal.{Share}
+use Rattle.ptu_pool_run.specs.declared.output.PoolLine.TheVariants as lines
+use Rattle.ptu_pool_run.specs.{declared.pool.Pool.{Pool}, Refusal.{Share}, Output.{pool_line_text}}
+use Rattle.ptu_pool_run.specs.{Changes.{TookDatagram, TookTurn}, Events.{PoolEvent, Came, Turned}}
+use Rattle.ptu_pool_run.specs.{Pool.{AreApart, is_in, is_in_at}, Standing.{AreSold, HasHappened}}
 use Rattle.ptu_pool_run.specs.PoolsStanding.{ChangesOne, KeptPools, StandFor}
+use Rattle.ptu_pool_run.specs.Ports.{AreAllIdle, AreAllSure, AreOthersSame, GoOn, GoOnIdle, sent_texts}
+use Rattle.ptu_pool_run.specs.Sending.{grandmaster_of, pool_lines_by, lines_of_event, place_of_pool, sends_at, sent_line}
 use Rattle.ptu_pool_run.proofs.Places.{found_in, none_in, one_place}
-use Rattle.ptu_pool_run.proofs.Standing.{get-set_other, get-set_same}
+use Rattle.ptu_pool_run.proofs.Standing.{get-set_same, set_each}
 use Rattle.ptu_script.specs.declared.command.GrandmasterSetup.{GrandmasterSetup}
 use Rattle.ptu_world.specs.{Deeds.{Grandmaster}, Grandmasters.{datagram_deed, turn_deed}}
 use Rattle.ptu_nodes.specs.GrandmasterPorts.{HasReplyRoom, HasRoom, in_ports}
 use Rattle.ptu_nodes.specs.{GrandmasterStatements.{IsSent}, Standing.{AreIdle, AreSure, setup_config}}
 use Rattle.ptu_nodes.proofs.{GrandmasterDone.{sends_heard, sends_turned, told_all}, Rooms.{few_heard}}
 use Rattle.ptu_nodes.proofs.Surely.{room_for_one, surely_taken, surely_turned}
-use Rattle.ptu_pool_run.specs.declared.output.PoolLine.TheVariants as lines
-use Rattle.ptu_pool_run.specs.Output.{pool_line_text}
-use Rattle.ptu_pool_run.specs.Ports.{AreAllIdle, AreAllSure, AreOthersSame, GoOn, GoOnIdle, sent_texts}
-use Rattle.ptu_pool_run.specs.Sending.{grandmaster_of, pool_lines_by, lines_of_event, place_of_pool, sends_at, sent_line}
-use Rattle.ptu_pool_run.specs.Standing.{AreSold, HasHappened}
 
 pub on_ok_five : {T E P Q R S U V : Type 0} (r : Result T E) → (P → Q → R → S → U → V) → OnOk r P → OnOk r Q → OnOk r R → OnOk r S → OnOk r U → OnOk r V
 on_ok_five (Ok x) f p q r s u = f p q r s u
@@ -140,22 +138,16 @@ module _ (setup : GrandmasterSetup) (line : ℕ) (events : List PoolEvent) (kept
         by : (i ≡ place) ⊎ (i ≡ place → ⊥) → AreIdle gm
         by (inl same) = told.emptied gm (subst (λ j. slice_get kept3.gms j ≡ Some gm) same now)
         by (inr other) =
-            idle i gm (sym (get-set_other kept1.gms place i one.after other)
-            ∙ (sym (ap (λ (l : List (KeptGm MemoryPort)). slice_get l i) gms_are) ∙ (sym (told.others i other) ∙ now)))
+            set_each (λ (j : ℕ) (g : KeptGm MemoryPort). j ≢ place → AreIdle g) kept1.gms place one.after (λ ne. absurd (ne refl)) (λ j g ne was _. idle j g was)
+            i gm (ap (λ (l : List (KeptGm MemoryPort)). slice_get l i) (sym gms_are) ∙ (sym (told.others i other) ∙ now)) other
 
     after_is : slice_get kept2.gms place ≡ Some one.after
     after_is = ap (λ (l : List (KeptGm MemoryPort)). slice_get l place) gms_are ∙ get-set_same kept1.gms place one.before one.after one.was
 
     all_sure : AreAllSure kept2
-    all_sure i gm now = by (cases_eq i place)
-      where
-        by : (i ≡ place) ⊎ (i ≡ place → ⊥) → AreSure gm
-        by (inl same) =
-            let both : Some one.after ≡ Some gm = sym after_is ∙ subst (λ j. slice_get kept2.gms j ≡ Some gm) same now in
-            let is : one.after ≡ gm = cc in
-            subst AreSure is one_sure
-        by (inr other) =
-            sure i gm (sym (get-set_other kept1.gms place i one.after other) ∙ (sym (ap (λ (l : List (KeptGm MemoryPort)). slice_get l i) gms_are) ∙ now))
+    all_sure i gm now =
+        set_each (λ (j : ℕ) (g : KeptGm MemoryPort). AreSure g) kept1.gms place one.after one_sure (λ j g ne was. sure j g was)
+        i gm (ap (λ (l : List (KeptGm MemoryPort)). slice_get l i) (sym gms_are) ∙ now)
 
     -- the same in terms of the pools as they were
     written : texts' ≡ texts ++ map pool_line_text (lines_of_event setup kept1.pools events line event)

@@ -1,7 +1,6 @@
 -- Why a line of a script of pools is refused, and how that is written (the project's own choice).
 use Rattle.std.specs.Prelude.{ℕ, List, codes}
-use Rattle.ptu_lines.specs.Cause.{line_cause_text}
-use Rattle.ptu_lines.specs.declared.cause.LineCause.{LineCause}
+use Rattle.ptu_lines.specs.{Cause.{line_cause_text}, declared.cause.LineCause.{LineCause}}
 use Rattle.ptu_pool_run.specs.declared.cause.PoolCause.{PoolCause}
 use Rattle.ptu_pool_run.specs.declared.cause.PoolCause.TheVariants.{Full, Line, Net, Number, Order, Over, Overlap}
 

@@ -2,18 +2,17 @@
 use Rattle.std.specs.Prelude.{◌≡◌, ℕ, max, false, IsTrue, List, map}
 use Rattle.ptu_outside.specs.{declared.port.Port.{Ghosts as Ports}, HandsOver.{HandsOver}}
 use Rattle.ptu_units.specs.Client.{table_of}
-use Rattle.ptu_history.specs.{Core.{table_step_moment}, History.{Record}}
-use Rattle.ptu_history.specs.Turns.{due_grants, message_of}
+use Rattle.ptu_history.specs.{Core.{table_step_moment}, Turns.{due_grants, message_of}}
+use Rattle.ptu_history.specs.History.{Record}
 use Rattle.ptu_shard.specs.{declared.answered.Turned.{Turned}, Messages.{departure_of}}
 use Rattle.ptu_shard.specs.Turn.{due_messages}
-use Rattle.ptu_gm_messages.specs.{Deciding.{client_of, opened_with}, Items.{heard_in}}
-use Rattle.ptu_gm_messages.specs.Replies.{reply_to}
-use Rattle.ptu_grandmaster.specs.declared.outcome.Taken.{Taken}
+use Rattle.ptu_gm_messages.specs.{Deciding.{client_of, opened_with}, Replies.{reply_to}}
+use Rattle.ptu_gm_messages.specs.Items.{heard_in}
+use Rattle.ptu_grandmaster.specs.{declared.outcome.Taken.{Taken}, Outcomes.{answers_seen}}
 use Rattle.ptu_grandmaster.specs.Gm.{KeptGm, StandsFor, table_at, with_table}
-use Rattle.ptu_grandmaster.specs.Outcomes.{answers_seen}
 use Rattle.ptu_grandmaster.specs.Taking.{ComesTo, IsAnswerTo, OnAsked, OnDelay, OnIgnored, Replies, Responds}
-use Rattle.ptu_pool_run.specs.declared.pool_set.PoolTaken.{PoolTaken}
-use Rattle.ptu_pool_run.specs.{declared.pool_set.PoolTaken.TheVariants.{Stranger, In}, Pool.{is_in_at}}
+use Rattle.ptu_pool_run.specs.{declared.pool_set.PoolTaken.{PoolTaken}, Pool.{is_in_at}}
+use Rattle.ptu_pool_run.specs.declared.pool_set.PoolTaken.TheVariants.{Stranger, In}
 use Rattle.ptu_pool_run.specs.PoolsStanding.{ChangesOne, KeptPools}
 
 -- what a grandmaster did with a datagram from the address that it was handed at the moment, before and after

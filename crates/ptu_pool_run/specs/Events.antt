@@ -3,9 +3,8 @@ use Rattle.std.specs.Prelude.{ℕ, ◌==◌, Bool, List, length, map, filter, su
 use Rattle.std.specs.List.{range_with_len}
 use Rattle.ptu_history.specs.History.{Record}
 use Rattle.ptu_profile.specs.declared.grandmaster.GmConfig.{GmConfig}
-use Rattle.ptu_grandmaster.specs.declared.driving.GmEvent.{GmEvent}
 use Rattle.ptu_grandmaster.specs.declared.driving.GmEvent.TheVariants as gm
-use Rattle.ptu_grandmaster.specs.Driven.{driven_history}
+use Rattle.ptu_grandmaster.specs.{declared.driving.GmEvent.{GmEvent}, Driven.{driven_history}}
 use Rattle.ptu_pool_run.specs.{declared.pool.Pool.{Pool}, Pool.{capacity_at, is_in_at}}
 
 -- what may happen to pools

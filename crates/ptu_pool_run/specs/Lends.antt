@@ -1,8 +1,6 @@
 -- What pools end as, where a `&mut` to a port is returned.
-use Rattle.std.specs.Prelude.{ℕ, zero, suc, List, [], ◌∷◌}
-use Rattle.std.specs.Borrow.{Fml, Lends, MutBor, RattleType}
+use Rattle.std.specs.{Prelude.{ℕ}, Borrow.{Fml, Lends, MutBor, RattleType}}
 use Rattle.ptu_outside.specs.declared.port.Port.{Ghosts}
-use Rattle.ptu_grandmaster.specs.Gm.{KeptGm, with_port}
 use Rattle.ptu_pool_run.specs.{contracts.pool_set.Pools.{the_row}, PoolsStanding.{KeptPools}}
 use Rattle.ptu_pool_run.specs.Ported.{with_port_of}
 

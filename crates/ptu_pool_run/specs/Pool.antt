@@ -1,6 +1,6 @@
 -- Pools of IPv4 addresses (the project's own choice).
-use Rattle.std.specs.Prelude.{◌≡◌, ℕ, ◌/◌, ◌%◌, ◌-◌, ◌^◌, ◌<◌, nat_le, ◌==◌, ◌&&◌, ◌||◌, Bool, true, false, IsTrue, List, slice_get, Option, Some}
-use Rattle.std.specs.{Option.{option_map_or}, List.{position}}
+use Rattle.std.specs.Prelude.{◌≡◌, ℕ, ◌/◌, ◌%◌, ◌-◌, ◌^◌, ◌<◌, nat_le, ◌==◌, ◌&&◌, ◌||◌, Bool, false, IsTrue, List, slice_get, Some}
+use Rattle.std.specs.Option.{option_map_or}
 use Rattle.ptu_pool_run.specs.declared.pool.Pool.{Pool}
 
 -- the first bits of the address are those of the pool

@@ -1,9 +1,9 @@
 -- What callers see of pools, and the events that they stand for.
-use Rattle.std.specs.Prelude.{◌≡◌, ℕ, List, [], ◌∷◌, Option, Some, slice_get, slice_set, flat_map}
+use Rattle.std.specs.Prelude.{◌≡◌, ℕ, List, Some, slice_get, slice_set, flat_map}
 use Rattle.ptu_profile.specs.declared.grandmaster.GmConfig.{GmConfig}
 use Rattle.ptu_grandmaster.specs.Gm.{KeptGm, StandsFor, five_ports}
-use Rattle.ptu_pool_run.specs.{declared.pool.Pool.{Pool}, Pool.{capacity_at}}
-use Rattle.ptu_pool_run.specs.Events.{PoolEvent, pool_history}
+use Rattle.ptu_pool_run.specs.{declared.pool.Pool.{Pool}, Events.{PoolEvent, pool_history}}
+use Rattle.ptu_pool_run.specs.Pool.{capacity_at}
 
 -- the pools, and the grandmaster of each, in the same order
 pub record KeptPools (P : Type 0) : Type 0 where

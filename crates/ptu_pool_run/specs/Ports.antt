@@ -3,10 +3,9 @@ use Rattle.std.specs.Prelude.{◌≡◌, ◌≢◌, ℕ, List, map, Some, slice_
 use Rattle.ptu_outside.specs.{Departure.{Departure}, MemoryPort.{MemoryPort}}
 use Rattle.ptu_profile.specs.declared.grandmaster.GmConfig.{GmConfig}
 use Rattle.ptu_grandmaster.specs.Gm.{KeptGm}
-use Rattle.ptu_pool_run.specs.{Events.{PoolEvent}, PoolsStanding.{KeptPools, StandFor}}
-use Rattle.ptu_pool_run.specs.Output.{pool_line_text}
+use Rattle.ptu_pool_run.specs.{Events.{PoolEvent}, Sending.{sent_line}}
+use Rattle.ptu_pool_run.specs.{PoolsStanding.{KeptPools, StandFor}, Output.{pool_line_text}}
 use Rattle.ptu_nodes.specs.Standing.{AreIdle, AreSure}
-use Rattle.ptu_pool_run.specs.Sending.{sent_line}
 
 -- nothing that was sent stands in a port of any grandmaster
 abbrev pub AreAllIdle : KeptPools MemoryPort → Type 0

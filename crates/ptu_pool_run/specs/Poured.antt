@@ -8,7 +8,7 @@ use Rattle.ptu_report.specs.Rules.{Outcome, Goes, Refuses, ending_of}
 use Rattle.ptu_pool_run.specs.{declared.pool.Pool.{Pool}, Events.{PoolEvent, is_own}}
 use Rattle.ptu_script.specs.declared.command.GrandmasterSetup.{GrandmasterSetup}
 use Rattle.ptu_pool_run.specs.declared.{cause.PoolCause.{PoolCause}, output.PoolLine.{PoolLine}}
-use Rattle.ptu_pool_run.specs.declared.output.PoolLine.TheVariants.{Sent, Stranger, Bad, End}
+use Rattle.ptu_pool_run.specs.declared.output.PoolLine.TheVariants.{Sent, Bad, End}
 use Rattle.ptu_pool_run.specs.{Output.{pool_line_text}, Reading.{At, Told, none_told, pool_rules}}
 use Rattle.ptu_pool_run.specs.Sending.{grandmaster_of, lines_of_event, sends_at, sent_line}
 
@@ -70,9 +70,7 @@ poured script = joined (poured_texts script)
 -- the line is of a datagram that the pool at this place sent
 abbrev pub is_line_of : ℕ → PoolLine → Bool
 is_line_of i (Sent line number channel to octets) = i + 1 == number
-is_line_of i (Stranger line) = false
-is_line_of i (Bad line cause) = false
-is_line_of i (End lines) = false
+is_line_of i _ = false
 
 -- the lines of the pool, in order
 abbrev pub lines_of_pool : ℕ → List ℕ → List PoolLine

@@ -4,35 +4,32 @@ use Rattle.std.specs.List.{position}
 use Rattle.ptu_lines.specs.Script.{script_lines}
 use Rattle.ptu_report.specs.Rules.{Goes, texts_of}
 use Rattle.ptu_messages.specs.declared.tlv.Tlv.{Tlv}
-use Rattle.ptu_history.specs.{Core.{core_history, history_after}, Held.{count, held}, History.{Record, Granted}}
 use Rattle.ptu_history.specs.Events as events
-use Rattle.ptu_history.specs.Events.{Event}
-use Rattle.ptu_gm_messages.specs.declared.item.Item.TheVariants as items
+use Rattle.ptu_history.specs.{Core.{core_history, history_after}, History.{Record, Granted}}
+use Rattle.ptu_history.specs.{Held.{count, held}, Live.{last_decision}, Verdict.{Config}}
+use Rattle.ptu_history.specs.{Events.{Event}, Runs.{chain}}
 use Rattle.ptu_gm_messages.specs.declared.heard.Heard.TheVariants as heard
-use Rattle.ptu_gm_messages.specs.Items.{heard_in}
+use Rattle.ptu_gm_messages.specs.declared.item.Item.TheVariants as items
+use Rattle.ptu_gm_messages.specs.{Items.{heard_in}, Replies.{reply_to}}
 use Rattle.ptu_gm_messages.specs.Deciding.{answer_by, events_of_datagram, opened_with}
-use Rattle.ptu_gm_messages.specs.Replies.{reply_to}
-use Rattle.ptu_units.specs.declared.kind.{Kind.{Kind}, Kind.TheVariants.{DelayResp}}
-use Rattle.ptu_units.specs.{declared.client.Client.{Client}, Client.{table_of}, Log.{period_of}}
+use Rattle.ptu_units.specs.{declared.kind.Kind.{Kind}, Client.{table_of}, Log.{period_of}}
+use Rattle.ptu_units.specs.declared.{kind.Kind.TheVariants.{DelayResp}, client.Client.{Client}}
 use Rattle.ptu_units.specs.Time.{second}
-use Rattle.ptu_history.specs.{Live.{last_decision}, Runs.{chain}, Verdict.{Config}}
 use Rattle.ptu_laws.specs.Served.{held_time, held_time_at, periods_sent, sent_at}
 use Rattle.ptu_laws.specs.Turned.{IsInEach, sent_moments, turn_moments}
-use Rattle.ptu_grandmaster.specs.Driven as driven
+use Rattle.ptu_pool_run.specs.declared.command.PoolCommand.TheVariants as commands
 use Rattle.ptu_pool_run.specs.Events as pool_events
 use Rattle.ptu_pool_run.specs.{Events.{gm_event, over_all, pool_history}, declared.pool.Pool.{Pool}}
-use Rattle.ptu_pool_run.specs.Pool.{capacity_at, is_in, is_in_at}
+use Rattle.ptu_pool_run.specs.{Pool.{capacity_at, is_in, is_in_at}, Sending.{sent_line}}
+use Rattle.ptu_pool_run.specs.{declared.command.PoolCommand.{PoolCommand}, Output.{pool_line_text}}
+use Rattle.ptu_pool_run.specs.declared.output.{PoolLine.{PoolLine}, PoolLine.TheVariants.{Sent}}
+use Rattle.ptu_pool_run.specs.Reading.{Told, pool_events, none_told, pool_rules, told_after}
+use Rattle.ptu_pool_run.specs.Poured.{lines_of_pool, own_at, own_lines_by, poured_lines, poured_texts, told_in, told_until}
 use Rattle.ptu_script.specs.declared.command.GrandmasterSetup.{GrandmasterSetup}
 use Rattle.ptu_world.specs.Deeds.{Grandmaster}
 use Rattle.ptu_world.specs.Promises.{IsDecidedByRoom, Request, Timing, capacity_then, decision, messages_in, timing_to}
 use Rattle.ptu_nodes.specs.Standing.{setup_config}
-use Rattle.ptu_pool_run.specs.declared.command.PoolCommand.{PoolCommand}
-use Rattle.ptu_pool_run.specs.declared.command.PoolCommand.TheVariants as commands
-use Rattle.ptu_pool_run.specs.declared.output.PoolLine.{PoolLine}
-use Rattle.ptu_pool_run.specs.declared.output.PoolLine.TheVariants.{Sent, Stranger, Bad, End}
-use Rattle.ptu_pool_run.specs.{Output.{pool_line_text}, Reading.{Told, pool_events, none_told, pool_rules, told_after}}
-use Rattle.ptu_pool_run.specs.Sending.{sent_line}
-use Rattle.ptu_pool_run.specs.Poured.{lines_of_pool, own_at, own_lines_by, poured_lines, poured_texts, told_in, told_until}
+use Rattle.ptu_grandmaster.specs.Driven as driven
 
 -- the history of the pool at this place, after all that a script says
 abbrev pub history_of : GrandmasterSetup → Told → ℕ → List Record
@@ -50,9 +47,7 @@ pub record SayAlike (i : ℕ) (one other : Told) : Type 0 where
 -- the timing message in a line, unless it is a Signaling or no datagram
 abbrev pub timing_in : PoolLine → Option Timing
 timing_in (Sent line number channel to octets) = timing_to to octets
-timing_in (Stranger line) = None
-timing_in (Bad line cause) = None
-timing_in (End lines) = None
+timing_in _ = None
 
 -- the messages in a pool's history are, one for one and in order, the datagrams in its lines but for Signaling
 abbrev pub AreMessagesWritten : List ℕ → GrandmasterSetup → ℕ → Type 0
@@ -62,9 +57,7 @@ AreMessagesWritten script setup i =
 -- the line is of a datagram to an address of the pool at this place
 abbrev pub is_line_to : List Pool → ℕ → PoolLine → Bool
 is_line_to pools i (Sent line number channel to octets) = is_in_at pools i to
-is_line_to pools i (Stranger line) = false
-is_line_to pools i (Bad line cause) = false
-is_line_to pools i (End lines) = false
+is_line_to pools i _ = false
 
 -- the lines to the addresses of the pool, in order
 abbrev pub lines_to_pool : ℕ → List ℕ → List PoolLine
@@ -96,10 +89,9 @@ pub record GoesOnInPool {script : List ℕ} (p : Sold script) (line : ℕ) (comm
 
 -- the place of the pool that a command hands something to
 abbrev pub pool_addressed : Told → PoolCommand → Option ℕ
-pool_addressed told (commands.Grandmaster setup) = None
-pool_addressed told (commands.Sell pool) = None
 pool_addressed told (commands.Receive t from octets) = position (is_in from) told.pools
 pool_addressed told (commands.Turn t number table) = Some (number - 1)
+pool_addressed told _ = None
 
 -- a pool's history begins empty; each datagram from an address of the pool, and each turn of it, makes it go on with just the
 -- events that this is; and no other line changes it

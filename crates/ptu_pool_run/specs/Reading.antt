@@ -3,14 +3,13 @@ use Rattle.std.specs.Prelude.{ℕ, ◌-◌, nat_le, if◌then◌else◌, List, [
 use Rattle.ptu_report.specs.Rules.{Rules, Outcome, Goes, Refuses}
 use Rattle.ptu_lines.specs.declared.cause.LineCause.{LineCause}
 use Rattle.ptu_script.specs.declared.command.GrandmasterSetup.{GrandmasterSetup}
-use Rattle.ptu_pool_run.specs.{declared.pool.Pool.{Pool}, Events.{PoolEvent, Came, Turned}}
-use Rattle.ptu_pool_run.specs.declared.cause.PoolCause.{PoolCause}
-use Rattle.ptu_pool_run.specs.declared.cause.PoolCause.TheVariants.{Order, Number}
-use Rattle.ptu_pool_run.specs.declared.command.PoolCommand.{PoolCommand}
 use Rattle.ptu_pool_run.specs.declared.command.PoolCommand.TheVariants as commands
-use Rattle.ptu_pool_run.specs.declared.output.PoolLine.TheVariants.{Bad, End}
-use Rattle.ptu_pool_run.specs.{Cause.{pool_cause_of_line}, Command.{pool_command_of}}
-use Rattle.ptu_pool_run.specs.{Output.{pool_line_text}, Sending.{lines_of_event}, Selling.{selling_refusal}}
+use Rattle.ptu_pool_run.specs.declared.{pool.Pool.{Pool}, output.PoolLine.TheVariants.{Bad, End}}
+use Rattle.ptu_pool_run.specs.{Events.{PoolEvent, Came, Turned}, Command.{pool_command_of}}
+use Rattle.ptu_pool_run.specs.{declared.cause.PoolCause.{PoolCause}, Cause.{pool_cause_of_line}}
+use Rattle.ptu_pool_run.specs.declared.cause.PoolCause.TheVariants.{Order, Number}
+use Rattle.ptu_pool_run.specs.{declared.command.PoolCommand.{PoolCommand}, Sending.{lines_of_event}}
+use Rattle.ptu_pool_run.specs.{Output.{pool_line_text}, Selling.{selling_refusal}}
 
 -- an event with the number of its line
 abbrev pub At : Type 0
@@ -42,9 +41,8 @@ sold_by told pool (Some cause) = Refuses cause
 
 -- a pool is sold, before any event
 abbrev pub sold : Told → Pool → Option GrandmasterSetup → List At → Outcome Told PoolCause
-sold told pool None events = Refuses Order
 sold told pool (Some setup) [] = sold_by told pool (selling_refusal setup.capacity told.pools pool)
-sold told pool (Some setup) (event ∷ events) = Refuses Order
+sold told pool _ _ = Refuses Order
 
 -- an event happens at this line
 abbrev pub happened : Told → ℕ → PoolEvent → GrandmasterSetup → Outcome Told PoolCause
@@ -59,9 +57,8 @@ turned told line t number table setup =
 
 -- an event after a pool
 abbrev pub behind_pools : Option GrandmasterSetup → List Pool → (GrandmasterSetup → Outcome Told PoolCause) → Outcome Told PoolCause
-behind_pools None pools then_ = Refuses Order
-behind_pools (Some setup) [] then_ = Refuses Order
 behind_pools (Some setup) (pool ∷ pools) then_ = then_ setup
+behind_pools _ _ then_ = Refuses Order
 
 -- what a command at this line does
 abbrev pub told_after : Told → ℕ → PoolCommand → Outcome Told PoolCause

@@ -1,9 +1,8 @@
 -- Why a pool is not sold behind others: the first cause that applies (the project's own choice).
 use Rattle.std.specs.Prelude.{ℕ, ◌+◌, nat_le, nat_lt, not, is_some, if◌then◌else◌, List, length, Option, Some, None}
 use Rattle.std.specs.List.{position}
-use Rattle.ptu_pool_run.specs.{declared.pool.Pool.{Pool}, Pool.{is_network, meets}}
-use Rattle.ptu_pool_run.specs.Refusal.{capacities}
-use Rattle.ptu_pool_run.specs.declared.cause.PoolCause.{PoolCause}
+use Rattle.ptu_pool_run.specs.declared.{pool.Pool.{Pool}, cause.PoolCause.{PoolCause}}
+use Rattle.ptu_pool_run.specs.{Pool.{is_network, meets}, Refusal.{capacities}}
 use Rattle.ptu_pool_run.specs.declared.cause.PoolCause.TheVariants.{Net, Full, Overlap, Over}
 
 -- of a whole capacity, behind the pools before it

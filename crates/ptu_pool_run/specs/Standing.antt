@@ -1,13 +1,12 @@
 -- What the value that the program keeps stands for.
-use Rattle.std.specs.Prelude.{◌≡◌, ◌≤◌, ℕ, List, [], ◌∷◌, ◌++◌, length, map, All, Bool, true, false, Option, Some, None, IfSome}
+use Rattle.std.specs.Prelude.{◌≡◌, ◌≤◌, ℕ, List, [], ◌∷◌, ◌++◌, length, map, Bool, true, false, Option, Some, None}
 use Rattle.ptu_outside.specs.MemoryPort.{MemoryPort}
-use Rattle.ptu_pool_run.specs.{declared.pool.Pool.{Pool}, Events.{PoolEvent}, Refusal.{Share}}
-use Rattle.ptu_pool_run.specs.PoolsStanding.{KeptPools, StandFor}
+use Rattle.ptu_pool_run.specs.{declared.pool.Pool.{Pool}, Refusal.{Share}, Sending.{lines_of_event}}
+use Rattle.ptu_pool_run.specs.{Events.{PoolEvent}, Output.{pool_line_text}}
+use Rattle.ptu_pool_run.specs.{PoolsStanding.{KeptPools, StandFor}, Reading.{At, Told, pool_events}}
+use Rattle.ptu_pool_run.specs.{declared.pouring.Pouring.{Pouring}, Ports.{AreAllIdle, AreAllSure}}
 use Rattle.ptu_script.specs.declared.command.GrandmasterSetup.{GrandmasterSetup}
 use Rattle.ptu_nodes.specs.Standing.{setup_config}
-use Rattle.ptu_pool_run.specs.{declared.pouring.Pouring.{Pouring}, Reading.{At, Told, pool_events}}
-use Rattle.ptu_pool_run.specs.{Output.{pool_line_text}, Sending.{lines_of_event}}
-use Rattle.ptu_pool_run.specs.Ports.{AreAllIdle, AreAllSure}
 
 -- there was an event
 abbrev pub has_events : List At → Bool

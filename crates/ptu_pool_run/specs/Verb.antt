@@ -17,9 +17,7 @@ pool_verb_name Turn = codes "turn"
 -- how many words its lines have, the first one counted
 abbrev pub count_of : PoolVerb → ℕ
 count_of Gm = 8
-count_of Pool = 4
-count_of Rx = 4
-count_of Turn = 4
+count_of _ = 4
 
 -- the line has as many words as those that begin with this word
 abbrev pub is_pool_counted : PoolVerb → List ℕ → Bool

@@ -6,8 +6,7 @@ ghost use Rattle.ptu_outside.specs.MemoryPort.{MemoryPort};
 ghost use Rattle.ptu_grandmaster.specs.Gm.{KeptGm};
 ghost use Rattle.ptu_nodes.specs.GrandmasterPorts.{HasReplyRoom};
 ghost use Rattle.ptu_pool_run.specs.{Events.{Came, PoolEvent, Turned as TurnedEvent}, Pool.{is_in}};
-ghost use Rattle.ptu_pool_run.specs.Ports.{GoOnIdle};
-ghost use Rattle.ptu_pool_run.specs.Standing.{AreSold, HasHappened};
+ghost use Rattle.ptu_pool_run.specs.{Ports.{GoOnIdle}, Standing.{AreSold, HasHappened}};
 ghost use Rattle.ptu_script.specs.declared.command.GrandmasterSetup.{GrandmasterSetup};
 
 use crate::output::PoolLine;

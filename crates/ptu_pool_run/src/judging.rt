@@ -1,7 +1,6 @@
 //! Pools are judged before any grandmaster is made.
 
-ghost use Rattle.std.specs.Prelude.{◌≡◌, ◌≤◌, length, OnOk, IfErr, MatchOption};
-ghost use Rattle.std.specs.List.{position};
+ghost use Rattle.std.specs.{Prelude.{◌≡◌, ◌≤◌, length, OnOk, IfErr, MatchOption}, List.{position}};
 ghost use Rattle.ptu_pool_run.specs.Pool.{AreApart, meets};
 ghost use Rattle.ptu_pool_run.specs.Refusal.{IsFirstOverlap, IsRefused, Share, capacities, first_wrong};
 

@@ -6,9 +6,8 @@ ghost use Rattle.ptu_history.specs.Held.{count, held};
 ghost use Rattle.ptu_profile.specs.declared.grandmaster.GmConfig.{GmConfig};
 ghost use Rattle.ptu_pool_run.specs.declared.pools_fault.PoolsFault.{PoolsFault};
 ghost use Rattle.ptu_pool_run.specs.declared.pools_fault.PoolsFault.TheVariants.{OutOfMemory};
-ghost use Rattle.ptu_pool_run.specs.declared.pool.Pool.{Pool};
 ghost use Rattle.ptu_pool_run.specs.Pool.{AreApart, ShareAddress, capacity_at, is_in_at, meets};
-ghost use Rattle.ptu_pool_run.specs.Refusal.{IsRefused, Share};
+ghost use Rattle.ptu_pool_run.specs.{declared.pool.Pool.{Pool}, Refusal.{IsRefused, Share}};
 ghost use Rattle.ptu_pool_run.specs.Events.{PoolEvent, is_own, own, over_all, pool_history};
 
 /// At every moment the rates that are held in a pool are within its own capacity, and those of all

@@ -1,9 +1,8 @@
 //! What the lines of a script so far have made of a grandmaster and its pools.
 
 ghost use Rattle.std.specs.Prelude.{◌≡◌, ◌<◌, ◌≤◌, [], IfOk};
-ghost use Rattle.ptu_pool_run.specs.Events.{Came};
 ghost use Rattle.ptu_report.specs.Rules.{IsOutcome};
-ghost use Rattle.ptu_pool_run.specs.Limits.{IsPoolCommandInRange};
+ghost use Rattle.ptu_pool_run.specs.{Events.{Came}, Limits.{IsPoolCommandInRange}};
 ghost use Rattle.ptu_pool_run.specs.Reading.{Told, behind_pools, happened, none_told, told_setup, sold};
 ghost use Rattle.ptu_pool_run.specs.{Reading.{told_after, turned}, Standing.{StandsFor, pools_of}};
 

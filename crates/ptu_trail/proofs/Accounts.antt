@@ -1,21 +1,20 @@
 -- The clients by address, after one more record.
 use Rattle.std.proofs.Common.{◌≡◌, ◌∙◌, ◌≢◌, ℕ, ◌+◌, ◌*◌, ◌++◌, ◌&&◌, ◌||◌, max, eqb, ltb, ◌<◌, ◌^◌, Bool, IfNone, true, false, not, cond, List, [], ◌∷◌, Option, Some, None, refl, sym, ap, ap₂, subst, arith}
+use Rattle.std.proofs.lemmas.Bool.{and_right, eq-eqb, le-ltb, lt-leb, lt-ltb, eqb-true, ltb-true, false_from_ne_true, or_parts, true≢false, false≢true}
+use Rattle.std.proofs.lemmas.List.Elements.{All-head, All-tail}
+use Rattle.std.proofs.{lemmas.List.Folds.{find-append, list_any-append}, Math.Bool.{or-false}}
 use Rattle.std.specs.{List.{All, find, list_any}, Option.{option_or, unwrap_or}}
 use Rattle.std.specs.Ordering.{is_eq, nat_cmp}
 use Rattle.std.specs.declared.cmp.Ordering.TheVariants.{Less, Equal, Greater}
-use Rattle.std.proofs.lemmas.Bool.{and_right, eq-eqb, le-ltb, lt-leb, lt-ltb, eqb-true, ltb-true, false_from_ne_true, or_parts, true≢false, false≢true}
-use Rattle.std.proofs.lemmas.List.Elements.{All-head, All-tail}
-use Rattle.std.proofs.lemmas.List.Folds.{find-append, list_any-append}
-use Rattle.std.proofs.Math.Bool.{or-false}
-use Rattle.ptu_units.specs.declared.kind.{Kind.{Kind}, Kind.TheVariants.{Announce, Sync, DelayResp}}
-use Rattle.ptu_units.specs.declared.{client.Client.{Client}, stamp.Stamp.{Stamp}}
-use Rattle.ptu_units.specs.Client.{same_client, same_kind, same_lease}
-use Rattle.ptu_history.specs.History.{Record, Granted, Short, Ended, Capacity, Shed, Looked, Sent, concerns, decides}
+use Rattle.ptu_units.specs.{declared.kind.Kind.{Kind}, Client.{same_client, same_kind, same_lease}}
+use Rattle.ptu_units.specs.declared.{kind.Kind.TheVariants.{Announce}, client.Client.{Client}}
+use Rattle.ptu_units.specs.declared.stamp.Stamp.{Stamp}
+use Rattle.ptu_history.specs.History.{Record, Granted, Ended, Capacity, Shed, Sent, concerns, decides}
 use Rattle.ptu_history.specs.{Moments.{greatest_by}, Live.{live}, Lawful.{earliest}}
 use Rattle.ptu_history.proofs.Decisions.{live-undecided}
 use Rattle.ptu_units.proofs.Keys.{same_client-refl, same_client-true}
-use Rattle.ptu_trail.specs.declared.{clients.Account.{Account}, known.Known.{Known}}
 use Rattle.ptu_trail.specs.declared.cause.NoCause.TheVariants as causes
+use Rattle.ptu_trail.specs.declared.{clients.Account.{Account}, known.Known.{Known}}
 use Rattle.ptu_trail.specs.Clients.{IsAccount}
 use Rattle.ptu_trail.specs.Faults.{client_at, decided_clients, decided_part, fault_of, is_of_other, is_shared, last_decided, last_sent_to, message_to, moment_of_stamp, sent_to_part}
 use Rattle.ptu_trail.specs.Known.{IsHeld, IsKnown, fault_by, lease_at, unknown}
@@ -26,12 +25,9 @@ use Rattle.ptu_trail.proofs.Knowing.{decided_more, held_push, message_fault, sen
 pub decided-append : (xs ys : List Record) → decided_clients (xs ++ ys) ≡ decided_clients xs ++ decided_clients ys
 decided-append [] ys = refl
 decided-append (Granted n c k l u ∷ xs) ys = ap (λ cs. c ∷ cs) (decided-append xs ys)
-decided-append (Short n c ∷ xs) ys = decided-append xs ys
 decided-append (Ended n c k ∷ xs) ys = ap (λ cs. c ∷ cs) (decided-append xs ys)
-decided-append (Capacity n capacity ∷ xs) ys = decided-append xs ys
 decided-append (Shed n c k ∷ xs) ys = ap (λ cs. c ∷ cs) (decided-append xs ys)
-decided-append (Looked n j ∷ xs) ys = decided-append xs ys
-decided-append (Sent n c k ∷ xs) ys = decided-append xs ys
+decided-append (r ∷ xs) ys = decided-append xs ys
 
 abbrev pub at_ip : ℕ → Client → Bool
 at_ip ip c = eqb c.ip ip
@@ -107,18 +103,12 @@ apart_sent c d x j other = record { concerned = λ k. concerned_none c d other x
 
 pub apart_decided : (r : Record) (c d : Client) → decided_clients (r ∷ []) ≡ d ∷ [] → same_client c d ≡ false → IsApart c r
 apart_decided (Granted n e j l u) c d is other = let same : d ≡ e = cc in
-    let differ : same_client c e ≡ false = subst (λ (x : Client). same_client c x ≡ false) same other in
-    record { concerned = λ k. concerned_none c e differ n k j; decided = part_none c e differ n; sent = refl }
-apart_decided (Short n e) c d is other = absurd cc
+    subst (λ (x : Client). IsApart c (Granted n x j l u)) same (record { concerned = λ k. concerned_none c d other n k j; decided = part_none c d other n; sent = refl })
 apart_decided (Ended n e j) c d is other = let same : d ≡ e = cc in
-    let differ : same_client c e ≡ false = subst (λ (x : Client). same_client c x ≡ false) same other in
-    record { concerned = λ k. concerned_none c e differ n k j; decided = part_none c e differ n; sent = refl }
-apart_decided (Capacity n capacity) c d is other = absurd cc
+    subst (λ (x : Client). IsApart c (Ended n x j)) same (record { concerned = λ k. concerned_none c d other n k j; decided = part_none c d other n; sent = refl })
 apart_decided (Shed n e j) c d is other = let same : d ≡ e = cc in
-    let differ : same_client c e ≡ false = subst (λ (x : Client). same_client c x ≡ false) same other in
-    record { concerned = λ k. concerned_none c e differ n k j; decided = part_none c e differ n; sent = refl }
-apart_decided (Looked n j) c d is other = absurd cc
-apart_decided (Sent n e j) c d is other = absurd cc
+    subst (λ (x : Client). IsApart c (Shed n x j)) same (record { concerned = λ k. concerned_none c d other n k j; decided = part_none c d other n; sent = refl })
+apart_decided _ c d is other = absurd cc
 
 -- clients at other addresses are others
 pub apart_ip : (c d : Client) → eqb c.ip d.ip ≡ false → same_client c d ≡ false
@@ -226,8 +216,7 @@ no_account q = (refl, λ c is. record { held = none c; decided = refl; sent = re
   where
     none : (c : Client) (k : Kind) → IsHeld [] c k (lease_at k unknown)
     none c Announce = λ x. live-undecided [] c Announce x refl
-    none c Sync = λ x. live-undecided [] c Sync x refl
-    none c DelayResp = λ x. live-undecided [] c DelayResp x refl
+    none c k = λ x. live-undecided [] c k x refl
 
 -- ---- messages to an address
 
@@ -266,8 +255,7 @@ stranger_message opening history c k x below s = none k ∙ message_fault openin
 
     none : (k : Kind) → Some causes.Grant ≡ fault_by x 0 (lease_at k unknown)
     none Announce = ap (λ b. cond b (Some causes.Moment) (Some causes.Grant)) (sym zero)
-    none Sync = ap (λ b. cond b (Some causes.Moment) (Some causes.Grant)) (sym zero)
-    none DelayResp = ap (λ b. cond b (Some causes.Moment) (Some causes.Grant)) (sym zero)
+    none _ = ap (λ b. cond b (Some causes.Moment) (Some causes.Grant)) (sym zero)
 
 pub none_at : (opening : ℕ) (history : List Record) (ip : ℕ) (k : Kind) (x : ℕ) → x < 2 ^ 62 → IsAccount history ip None → Some causes.Grant ≡ fault_of opening history (Sent x (client_at history ip) k) []
 none_at opening history ip k x below s = stranger_message opening history (client_at history ip) k x below (s.1 (client_at history ip) (client_none history ip s.0))
@@ -302,12 +290,9 @@ module _ (ip : ℕ) (c : Client) (here : c.ip ≡ ip) (k : Kind) where
   undecided : (history : List Record) → find (at_ip ip) (decided_clients history) ≡ None → list_any (decides c k) history ≡ false
   undecided [] none = refl
   undecided (Granted n d j l u ∷ history) none = let p = none_parts (at_ip ip d) d (find (at_ip ip) (decided_clients history)) none in not_decided d j (list_any (decides c k) history) p.0 (undecided history p.1)
-  undecided (Short n d ∷ history) none = undecided history none
   undecided (Ended n d j ∷ history) none = let p = none_parts (at_ip ip d) d (find (at_ip ip) (decided_clients history)) none in not_decided d j (list_any (decides c k) history) p.0 (undecided history p.1)
-  undecided (Capacity n capacity ∷ history) none = undecided history none
   undecided (Shed n d j ∷ history) none = let p = none_parts (at_ip ip d) d (find (at_ip ip) (decided_clients history)) none in not_decided d j (list_any (decides c k) history) p.0 (undecided history p.1)
-  undecided (Looked n j ∷ history) none = undecided history none
-  undecided (Sent n d j ∷ history) none = undecided history none
+  undecided (r ∷ history) none = undecided history none
 
   at_zero : (d : Client) (n m : ℕ) → at_ip ip d ≡ false → m ≡ 0 → max (cond (same_client c d) n 0) m ≡ 0
   at_zero d n m e f = ap (λ b. max (cond b n 0) m) (differ d e) ∙ ap (λ i. max 0 i) f
@@ -315,12 +300,9 @@ module _ (ip : ℕ) (c : Client) (here : c.ip ≡ ip) (k : Kind) where
   zero_greatest : (history : List Record) → find (at_ip ip) (decided_clients history) ≡ None → greatest_by (decided_part c) history ≡ 0
   zero_greatest [] none = refl
   zero_greatest (Granted n d j l u ∷ history) none = let p = none_parts (at_ip ip d) d (find (at_ip ip) (decided_clients history)) none in at_zero d n (greatest_by (decided_part c) history) p.0 (zero_greatest history p.1)
-  zero_greatest (Short n d ∷ history) none = ap (λ i. max 0 i) (zero_greatest history none)
   zero_greatest (Ended n d j ∷ history) none = let p = none_parts (at_ip ip d) d (find (at_ip ip) (decided_clients history)) none in at_zero d n (greatest_by (decided_part c) history) p.0 (zero_greatest history p.1)
-  zero_greatest (Capacity n capacity ∷ history) none = ap (λ i. max 0 i) (zero_greatest history none)
   zero_greatest (Shed n d j ∷ history) none = let p = none_parts (at_ip ip d) d (find (at_ip ip) (decided_clients history)) none in at_zero d n (greatest_by (decided_part c) history) p.0 (zero_greatest history p.1)
-  zero_greatest (Looked n j ∷ history) none = ap (λ i. max 0 i) (zero_greatest history none)
-  zero_greatest (Sent n d j ∷ history) none = ap (λ i. max 0 i) (zero_greatest history none)
+  zero_greatest (r ∷ history) none = ap (λ i. max 0 i) (zero_greatest history none)
 
   zero_decided : (history : List Record) → find (at_ip ip) (decided_clients history) ≡ None → last_decided history c ≡ 0
   unfolding last_decided
@@ -368,12 +350,9 @@ module _ (c d : Client) (here : d.ip ≡ c.ip) (other : same_client c d ≡ fals
   not_decided_on : (k : Kind) (history : List Record) → list_any (same_client c) (decided_clients history) ≡ false → list_any (decides c k) history ≡ false
   not_decided_on k [] none = refl
   not_decided_on k (Granted n e j l u ∷ history) none = let parts = or_parts (same_client c e) (list_any (same_client c) (decided_clients history)) none in ap (λ a. (a && same_kind k j) || list_any (decides c k) history) parts.0 ∙ not_decided_on k history parts.1
-  not_decided_on k (Short n e ∷ history) none = not_decided_on k history none
   not_decided_on k (Ended n e j ∷ history) none = let parts = or_parts (same_client c e) (list_any (same_client c) (decided_clients history)) none in ap (λ a. (a && same_kind k j) || list_any (decides c k) history) parts.0 ∙ not_decided_on k history parts.1
-  not_decided_on k (Capacity n capacity ∷ history) none = not_decided_on k history none
   not_decided_on k (Shed n e j ∷ history) none = let parts = or_parts (same_client c e) (list_any (same_client c) (decided_clients history)) none in ap (λ a. (a && same_kind k j) || list_any (decides c k) history) parts.0 ∙ not_decided_on k history parts.1
-  not_decided_on k (Looked n j ∷ history) none = not_decided_on k history none
-  not_decided_on k (Sent n e j ∷ history) none = not_decided_on k history none
+  not_decided_on k (r ∷ history) none = not_decided_on k history none
 
 -- a client whose address has another identity has no grant
 pub shared_none : (history : List Record) (c : Client) (k : Kind) (account : Option Account) → IsAccount history c.ip account → is_shared history c ≡ true → (x : ℕ) → live history x c k ≡ false

@@ -1,18 +1,17 @@
 -- The order of ends, and what is done to the entries of a map of them.
 use Rattle.std.proofs.Common.{◌≡◌, ◌∙◌, ℕ, ◌+◌, ◌≤◌, ◌<◌, ◌&&◌, Bool, true, false, not, cond, eqb, ltb, List, [], ◌∷◌, Option, Some, None, filter, refl, sym, ap, ap₂, arith, nat_cmp}
-use Rattle.std.specs.{BTreeMap.{insert_entry, is_at}, List.{All, list_all, sum_by}}
-use Rattle.std.specs.{List.Sorted.{IsStrictlySortedBy}, Map.{lookup, remove_entry, keys_of}}
-use Rattle.std.specs.Option.{option_map, unwrap_or}
-use Rattle.std.specs.Ordering.{is_eq, is_gt, match_ordering, ordering_then}
-use Rattle.std.specs.declared.cmp.{Ordering.{Ordering}, Ordering.TheVariants.{Less, Equal, Greater}}
 use Rattle.std.proofs.lemmas.Bool.{and_parts, eqb-true, false_from_ne_true, false≢true, true≢false, le-ltb, lt-ltb, ltb-false, ltb-true}
 use Rattle.std.proofs.lemmas.List.{Elements.{All-head, All-tail, filter_agree}, Sums.{sum_by-cons}}
 use Rattle.std.proofs.lemmas.Map.Entries.{sum_by-insert_entry, sum_by-remove_entry}
+use Rattle.std.specs.{BTreeMap.{insert_entry, is_at}, Option.{option_map, unwrap_or}}
+use Rattle.std.specs.List.{All, list_all, sum_by}
+use Rattle.std.specs.{List.Sorted.{IsStrictlySortedBy}, Map.{lookup, remove_entry, keys_of}}
+use Rattle.std.specs.Ordering.{is_eq, is_gt, match_ordering, ordering_then}
+use Rattle.std.specs.declared.cmp.{Ordering.{Ordering}, Ordering.TheVariants.{Less, Equal, Greater}}
 use Rattle.ptu_units.specs.Client.{client_cmp, kind_cmp, same_client, same_lease}
 use Rattle.ptu_units.specs.declared.client.Client.{Client}
-use Rattle.ptu_trail.specs.declared.live.End.{End}
 use Rattle.ptu_trail.specs.contracts.live.EndOrd.TheImpl as ends
-use Rattle.ptu_trail.specs.contracts.live.EndOrd.TheImpl.Laws.{total-law}
+use Rattle.ptu_trail.specs.{declared.live.End.{End}, contracts.live.EndOrd.TheImpl.Laws.{total-law}}
 use Rattle.ptu_trail.specs.Live.{is_live_entry, is_other_entry, total_of}
 use Rattle.ptu_trail.proofs.Accounts.{cmp_same}
 use Rattle.ptu_history.proofs.Order.{kind_cmp_is}
@@ -30,8 +29,7 @@ end_cmp_is a b = ap (λ o. ordering_then (nat_cmp a.until b.until) (ordering_the
 
 then_same : (o p : Ordering) → is_eq (ordering_then o p) ≡ (is_eq o && is_eq p)
 then_same Less p = refl
-then_same Equal p = refl
-then_same Greater p = refl
+then_same _ p = refl
 
 and_assoc : (p q r : Bool) → (p && (q && r)) ≡ ((p && q) && r)
 and_assoc true q r = refl
@@ -71,9 +69,6 @@ not_before a b h = at (ltb b.until a.until) refl
 -- ---- the entries of a map
 
 module _ (n : ℕ) where
-  pub ended_first : (e : End × ℕ) (es : List (End × ℕ)) → e.0.until ≤ n → filter (is_live_entry n) (e ∷ es) ≡ filter (is_live_entry n) es
-  ended_first e es le = ap (λ b. cond b (e ∷ filter (is_live_entry n) es) (filter (is_live_entry n) es)) (le-ltb n e.0.until le)
-
   -- where the first one is live, all are
   pub all_live : (first : End) (es : List (End × ℕ)) → n < first.until → All (λ k. is_gt (ends.cmp-value.it first k) ≡ false) (keys_of es) → es ≡ filter (is_live_entry n) es
   all_live first [] lt above = refl

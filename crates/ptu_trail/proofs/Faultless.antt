@@ -1,8 +1,7 @@
 -- Trails without a fault, one record after the other.
 use Rattle.std.proofs.Common.{◌≡◌, ◌∙◌, ℕ, ◌++◌, List, [], ◌∷◌, false, cond, eqb, Option, Some, None, refl, sym, ap, subst, append_assoc}
 use Rattle.std.proofs.lemmas.{List.{append-nil}, Bool.{true≢false}}
-use Rattle.ptu_history.specs.History.{Record, Granted, Short, Ended, Capacity, Shed, Looked, Sent}
-use Rattle.ptu_history.specs.Counts.{is_shedding}
+use Rattle.ptu_history.specs.{History.{Record, Granted, Capacity, Shed}, Counts.{is_shedding}}
 use Rattle.ptu_laws.specs.Sound.{sheds_at}
 use Rattle.ptu_trail.specs.declared.cause.{Fault.{Fault}, NoCause.{NoCause}}
 use Rattle.ptu_trail.specs.Faults.{IsFaultless, behind, fault_of, first_fault, or_behind}
@@ -46,33 +45,18 @@ IsNoShedding [] = Unit {0}
 IsNoShedding (r ∷ rest) = is_shedding r ≡ false
 
 none-at : (x : ℕ) (ys : List Record) → IsNoShedding ys → sheds_at x ys ≡ []
-none-at x [] other = refl
-none-at x (Granted n c k l u ∷ ys) other = refl
-none-at x (Short n c ∷ ys) other = refl
-none-at x (Ended n c k ∷ ys) other = refl
-none-at x (Capacity n capacity ∷ ys) other = refl
 none-at x (Shed n c k ∷ ys) other = absurd (true≢false other)
-none-at x (Looked n j ∷ ys) other = refl
-none-at x (Sent n c k ∷ ys) other = refl
+none-at x _ other = refl
 
 sheds-same : (x : ℕ) (xs ys : List Record) → IsNoShedding ys → sheds_at x (xs ++ ys) ≡ sheds_at x xs
 sheds-same x [] ys other = none-at x ys other
-sheds-same x (Granted n c k l u ∷ xs) ys other = refl
-sheds-same x (Short n c ∷ xs) ys other = refl
-sheds-same x (Ended n c k ∷ xs) ys other = refl
-sheds-same x (Capacity n capacity ∷ xs) ys other = refl
 sheds-same x (Shed n c k ∷ xs) ys other = ap (λ rs. cond (eqb n x) (Shed n c k ∷ rs) []) (sheds-same x xs ys other)
-sheds-same x (Looked n j ∷ xs) ys other = refl
-sheds-same x (Sent n c k ∷ xs) ys other = refl
+sheds-same x (Granted n c k l u ∷ xs) ys other = refl
+sheds-same x (r ∷ xs) ys other = refl
 
 pub fault-same : (opening : ℕ) (before : List Record) (r : Record) (xs ys : List Record) → IsNoShedding ys → fault_of opening before r (xs ++ ys) ≡ fault_of opening before r xs
-fault-same opening before (Granted n c k l u) xs ys other = refl
-fault-same opening before (Short n c) xs ys other = refl
-fault-same opening before (Ended n c k) xs ys other = refl
 fault-same opening before (Capacity x capacity) xs ys other = rw (sheds-same x xs ys other)
-fault-same opening before (Shed x c k) xs ys other = refl
-fault-same opening before (Looked x j) xs ys other = refl
-fault-same opening before (Sent x c k) xs ys other = refl
+fault-same opening before _ xs ys other = refl
 
 none-append : (opening : ℕ) (before xs ys : List Record) → IsNoShedding ys → first_fault opening before xs ≡ None → first_fault opening (before ++ xs) ys ≡ None → first_fault opening before (xs ++ ys) ≡ None
 none-append opening before [] ys other first then = ap (λ h. first_fault opening h ys) (sym (append-nil before)) ∙ then

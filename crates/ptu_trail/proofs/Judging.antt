@@ -1,9 +1,9 @@
 -- Decisions and changes that are judged, and what a trail stands for after them.
 use Rattle.std.proofs.Common.{◌≡◌, ◌∙◌, ℕ, ◌≤◌, ◌<◌, ◌^◌, ◌+◌, max, ◌++◌, ℤ, Bool, true, false, not, cond, ltb, List, [], ◌∷◌, map, Option, Some, None, Result, Ok, Err, IfOk, nat_cmp, refl, sym, ap, subst, arith, append_assoc}
-use Rattle.std.specs.{BTreeMap.{get}, List.{list_any, sum_by}}
 use Rattle.std.proofs.lemmas.Bool.{le-ltb, lt-leb, ltb-false, or_parts, eq-eqb}
-use Rattle.ptu_units.specs.declared.client.Client.{Client}
-use Rattle.ptu_units.specs.{declared.kind.Kind.{Kind}, Log.{rate_of}}
+use Rattle.std.specs.{BTreeMap.{get}, List.{list_any, sum_by}}
+use Rattle.ptu_units.specs.declared.{client.Client.{Client}, kind.Kind.{Kind}}
+use Rattle.ptu_units.specs.Log.{rate_of}
 use Rattle.ptu_history.specs.History.{Record, Capacity, Granted, capacity_in_force, is_change, is_decision}
 use Rattle.ptu_history.specs.Moments.{book_moment, book_part, greatest_by}
 use Rattle.ptu_history.specs.Live.{Grant, live_grants, standing, without}
@@ -12,14 +12,13 @@ use Rattle.ptu_history.proofs.Capacities.{capacity_in_force-append, capacity_in_
 use Rattle.ptu_history.proofs.Lists.{greatest_by-append, greatest_by-map-le}
 use Rattle.ptu_history.proofs.Moments.{book_moment-push}
 use Rattle.ptu_laws.specs.Sound.{sheds_at}
-use Rattle.ptu_trail.specs.declared.cause.NoCause.{NoCause}
 use Rattle.ptu_trail.specs.declared.cause.NoCause.TheVariants as causes
+use Rattle.ptu_trail.specs.{declared.cause.NoCause.{NoCause}, Known.{IsHeld, IsKnown, lease_at}}
 use Rattle.ptu_trail.specs.declared.{cause.Shedding.{Shedding}, clients.Clients.{Clients}}
-use Rattle.ptu_trail.specs.declared.{live.End.{End}, trail.Trail.{Trail}}
-use Rattle.ptu_trail.specs.Clients.{AreKnown, IsPlaced}
+use Rattle.ptu_trail.specs.declared.{live.End.{End}, known.Lease.{Lease}}
+use Rattle.ptu_trail.specs.{declared.trail.Trail.{Trail}, Live.{AreLive, AreOf, IsLatestLeaseOf}}
+use Rattle.ptu_trail.specs.{Clients.{AreKnown, IsPlaced}, declared.known.Known.{Known}}
 use Rattle.ptu_trail.specs.Faults.{decision_tests, fault_of, first_no_cause, is_no_moment, last_sent_to, record_of}
-use Rattle.ptu_trail.specs.declared.known.{Known.{Known}, Lease.{Lease}}
-use Rattle.ptu_trail.specs.{Known.{IsHeld, IsKnown, lease_at}, Live.{AreLive, AreOf, IsLatestLeaseOf}}
 use Rattle.ptu_trail.specs.Trail.{StandsFor}
 use Rattle.ptu_trail.proofs.{Accounts.{change_account}, Living.{lease_held, live-undecided}}
 use Rattle.ptu_trail.proofs.Sound.{all_false}

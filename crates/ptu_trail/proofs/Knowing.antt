@@ -3,16 +3,15 @@ use Rattle.std.proofs.Common.{◌≡◌, ◌∙◌, ℕ, ◌+◌, ◌^◌, ◌<�
 use Rattle.std.proofs.lemmas.{Bool.{lt-leb, ltb-true, and_right}, Bool.Decides.{Decides-int_eq}}
 use Rattle.std.specs.Ordering.{int_eq}
 use Rattle.ptu_units.specs.declared.kind.{Kind.{Kind}, Kind.TheVariants.{Announce, Sync, DelayResp}}
-use Rattle.ptu_units.specs.{declared.client.Client.{Client}, Log.{period_of}}
-use Rattle.ptu_units.specs.Client.{same_client, same_kind, same_lease}
+use Rattle.ptu_units.specs.declared.client.Client.{Client}
+use Rattle.ptu_units.specs.{Log.{period_of}, Client.{same_client, same_kind, same_lease}}
 use Rattle.ptu_history.specs.History.{Record, Ended, Granted, Sent, Shed, concerns, is_decision}
-use Rattle.ptu_history.specs.{Moments.{greatest_by}, Live.{last_decision}}
-use Rattle.ptu_history.specs.Lawful.{earliest, edge_after, last_period}
+use Rattle.ptu_history.specs.{Moments.{greatest_by}, Lawful.{earliest, edge_after}}
+use Rattle.ptu_history.specs.Live.{last_decision}
 use Rattle.ptu_units.proofs.Keys.{same_client-refl, same_lease-refl}
-use Rattle.ptu_history.proofs.AfterSteps.{live-last}
+use Rattle.ptu_history.proofs.{AfterSteps.{live-last}, Standing.{last_pushed}}
 use Rattle.ptu_history.proofs.{Decisions.{live-ended, live-shed}, Lists.{greatest_by-push}}
 use Rattle.ptu_history.proofs.Renewals.{earliest_new, earliest_same, edge_sent, first_continues, last_period-granted, other_continues}
-use Rattle.ptu_history.proofs.Standing.{last_pushed}
 use Rattle.ptu_history.proofs.Strangers.{earliest-push, live-undecided_push}
 use Rattle.ptu_trail.specs.declared.cause.NoCause.TheVariants as causes
 use Rattle.ptu_trail.specs.declared.known.{Known.{Known}, Lease.{Lease}}
@@ -28,9 +27,8 @@ message_fault opening history c k known at below s = by (lease_at k known) (s.he
 
     choice : (d u e : Bool) → cond d (Some causes.Moment) (cond u (cond e (Some causes.Early) None) (Some causes.Grant))
         ≡ cond d (Some causes.Moment) (cond (not u) (Some causes.Grant) (cond e (Some causes.Early) None))
-    choice true u e = refl
     choice false true e = refl
-    choice false false e = refl
+    choice _ _ e = refl
 
     by : (lease : Option Lease) → IsHeld history c k lease → fault_by at known.decided lease ≡ fault_of opening history (Sent at c k) []
     by None none = rw (stamp, ← s.decided, none at) refl
@@ -77,8 +75,7 @@ held_after history x c DelayResp known lease e s DelayResp = held_same history x
 
 pub decided_with : (k : Kind) (lease : Option Lease) (known : Known) → (with_lease k lease known).decided ≡ known.decided
 decided_with Announce lease known = refl
-decided_with Sync lease known = refl
-decided_with DelayResp lease known = refl
+decided_with _ lease known = refl
 
 pub message_goes : (history : List Record) (x : ℕ) (c : Client) (k : Kind) (known : Known) (lease : Lease) → lease_at k known ≡ Some lease → IsKnown history c known
     → IsKnown (history ++ Sent x c k ∷ []) c (after_message k x lease known)
@@ -90,8 +87,7 @@ message_goes history x c k known lease e s = record {
 
 pub sent_with : (k : Kind) (lease : Option Lease) (known : Known) → (with_lease k lease known).sent ≡ known.sent
 sent_with Announce lease known = refl
-sent_with Sync lease known = refl
-sent_with DelayResp lease known = refl
+sent_with _ lease known = refl
 
 -- ---- after a decision
 
@@ -136,8 +132,7 @@ held_granted history n c k l u (Some lease) h = by (ltb n lease.until) refl (int
 
 lease_still : (j : Kind) (known : Known) (n : ℕ) → lease_at j (record known { decided = n }) ≡ lease_at j known
 lease_still Announce known n = refl
-lease_still Sync known n = refl
-lease_still DelayResp known n = refl
+lease_still _ known n = refl
 
 -- a decision on one kind: its lease is this, those of the others are as they were
 module _ (history : List Record) (r : Record) (c : Client) (k : Kind) (lease : Option Lease) (n : ℕ) (known : Known)

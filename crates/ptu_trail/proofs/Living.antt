@@ -1,25 +1,23 @@
 -- Entries that are those of the live grants, at a later moment and after a grant, an end or a shedding.
 use Rattle.std.proofs.Common.{◌≡◌, ◌∙◌, ℕ, ◌+◌, ◌<◌, ◌≤◌, get_or, length, take, ltb, eqb, ◌&&◌, Bool, true, false, not, cond, List, [], ◌∷◌, ◌++◌, map, filter, Option, Some, None, ℤ, refl, sym, ap, subst, arith, append_assoc}
-use Rattle.std.specs.{List.{All, Contains, list_all, sum_by}, Map.{values_of}}
 use Rattle.std.proofs.lemmas.Bool.{eq-eqb, false≢true, le-ltb, lt-ltb, ltb-false}
-use Rattle.std.proofs.lemmas.List.{append-nil}
+use Rattle.std.proofs.lemmas.{List.{append-nil}, List.Sums.{sum_by-append, sum_by-cons}}
 use Rattle.std.proofs.lemmas.List.Elements.{All-contains_itself, All-filter, All-head, All-tail, All-weaker, filter-append}
-use Rattle.std.proofs.lemmas.List.Sums.{sum_by-append, sum_by-cons}
 use Rattle.std.proofs.Math.Bool.{and-false}
-use Rattle.ptu_units.specs.{declared.kind.Kind.{Kind}, Log.{rate_of}}
-use Rattle.ptu_units.specs.{declared.client.Client.{Client}, Client.{same_lease}}
+use Rattle.std.specs.{List.{All, Contains, list_all, sum_by}, Map.{values_of}}
+use Rattle.ptu_units.specs.declared.{kind.Kind.{Kind}, client.Client.{Client}}
+use Rattle.ptu_units.specs.{Log.{rate_of}, Client.{same_lease}}
 use Rattle.ptu_history.specs.History.{Record, Granted, Ended, Shed, is_decision}
 use Rattle.ptu_history.specs.Live.{Grant, is_of, last_decision, live, live_grants, standing, without}
 use Rattle.ptu_history.specs.Verdict.{rate_sum}
-use Rattle.ptu_history.proofs.AfterSteps.{live-last}
+use Rattle.ptu_history.proofs.{AfterSteps.{live-last}, Lists.{filter-comm}, Orders.{live_members}}
 use Rattle.ptu_history.proofs.Currents.{standing-ended, standing-granted, standing-shed, standing-undecided}
 use Rattle.ptu_units.proofs.Keys.{same_lease-true}
-use Rattle.ptu_history.proofs.{Lists.{filter-comm}, Orders.{live_members}}
 use Rattle.ptu_laws.proofs.Sums.{sum-filter}
 use Rattle.ptu_trail.specs.declared.{cause.Shedding.{Shedding}, known.Lease.{Lease}, live.End.{End}}
 use Rattle.ptu_trail.specs.{Faults.{record_of}, Known.{IsHeld}}
-use Rattle.ptu_trail.proofs.Sheds.{records_more}
 use Rattle.ptu_trail.specs.Live.{AreLive, AreOf, EndsAt, IsLatestLeaseOf, end_entry_of, is_live_entry, is_other_entry, total_of}
+use Rattle.ptu_trail.proofs.Sheds.{records_more}
 
 -- ---- what is summed
 

@@ -3,7 +3,7 @@ use Rattle.std.proofs.Common.{◌≡◌, ℕ, ◌≤◌, Bool, true, false, ◌&
 use Rattle.std.proofs.lemmas.Bool.{ltb-false, le-leb, or_parts, not-false, and_from}
 use Rattle.ptu_units.specs.declared.kind.Kind.{Kind}
 use Rattle.ptu_units.specs.{declared.client.Client.{Client}, Client.{same_client, same_kind}}
-use Rattle.ptu_history.specs.History.{Record, Granted, Short, Ended, Capacity, Shed, Looked, Sent}
+use Rattle.ptu_history.specs.History.{Record, Granted, Ended, Capacity, Shed, Sent}
 use Rattle.ptu_history.specs.{Moments.{book_moment}, Live.{live}, Lawful.{earliest, lawful}}
 use Rattle.ptu_laws.specs.Sound.{IsInOrder, IsSound, MayStand, last_sent, sent_part}
 use Rattle.ptu_trail.specs.declared.cause.NoCause.{NoCause}
@@ -27,8 +27,7 @@ all_false (test ∷ tests) e = let both = first_false test.0 test.1 (first_no_ca
 
 part-le : (a b : Bool) (x : ℕ) → cond (a && b) x 0 ≤ cond a x 0
 part-le true true x = omega arith
-part-le true false x = omega arith
-part-le false b x = omega arith
+part-le _ _ x = omega arith
 
 one-le : (c : Client) (k : Kind) (r : Record) → sent_part c k r ≤ sent_to_part c r
 one-le c k (Sent x d j) = part-le (same_client c d) (same_kind k j) x
@@ -51,13 +50,12 @@ lawful_is before x c k a b = and_from (live before x c k) (leb (earliest before 
 
 stands : (opening : ℕ) (before : List Record) (r : Record) (after : List Record) → IsInRange r → AreFalse (tests_of opening before r after) → MayStand opening before r after
 stands opening before (Granted n c k l u) after range f = (in_order before n c k f.1.1.0, range, ltb-false _ _ f.1.1.1.0)
-stands opening before (Short n c) after range f = tt
 stands opening before (Ended n c k) after range f = in_order before n c k f.1.1.0
 stands opening before (Shed n c k) after range f = in_order before n c k f.1.1.0
 stands opening before (Capacity x capacity) after range f = (ltb-false _ _ f.1.0, ltb-false _ _ f.1.1.0)
-stands opening before (Looked x j) after range f = tt
 stands opening before (Sent x c k) after range f =
     lawful_is before x c k (not-false (live before x c k) f.1.1.0) (ltb-false x (earliest before c k) f.1.1.1.0)
+stands opening before _ after range f = tt
 
 in_range_at : (before : List Record) (r : Record) (after : List Record) → AreInRange (before ++ r ∷ after) → IsInRange r
 in_range_at [] r after all = all.0

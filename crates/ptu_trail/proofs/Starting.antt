@@ -3,7 +3,7 @@ use Rattle.std.proofs.Common.{◌≡◌, ◌∙◌, ℕ, ◌≤◌, ◌++◌, Bo
 use Rattle.std.proofs.lemmas.Bool.{and_parts, false≢true, ltb-false}
 use Rattle.ptu_units.specs.declared.kind.Kind.{Kind}
 use Rattle.ptu_units.specs.{declared.client.Client.{Client}, Client.{same_client, same_kind, same_lease}}
-use Rattle.ptu_history.specs.History.{Record, Granted, Short, Ended, Capacity, Shed, Looked, Sent, decides, lease_records, moment_of}
+use Rattle.ptu_history.specs.History.{Record, Granted, Ended, Shed, Sent, decides, lease_records, moment_of}
 use Rattle.ptu_history.specs.Live.{last_decision}
 use Rattle.ptu_history.proofs.{Lists.{by_push, greatest_by-push}, Standing.{last_pushed}}
 use Rattle.ptu_laws.specs.Promises.{KeepsPromises}
@@ -19,12 +19,9 @@ of_client n c d k j own =
 -- a decision on the client and kind is one on the client
 decision-part : (c : Client) (k : Kind) (r : Record) → decides c k r ≡ true → moment_of r ≤ decided_part c r
 decision-part c k (Granted n d j l u) own = of_client n c d k j own
-decision-part c k (Short n d) own = absurd (false≢true own)
 decision-part c k (Ended n d j) own = of_client n c d k j own
-decision-part c k (Capacity n capacity) own = absurd (false≢true own)
 decision-part c k (Shed n d j) own = of_client n c d k j own
-decision-part c k (Looked n j) own = absurd (false≢true own)
-decision-part c k (Sent n d j) own = absurd (false≢true own)
+decision-part c k _ own = absurd (false≢true own)
 
 nothing-past : (c : Client) (k : Kind) (r : Record) → last_decision [] c k ≡ Some r → moment_of r ≤ last_decided [] c
 unfolding last_decision lease_records

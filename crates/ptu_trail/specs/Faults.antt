@@ -1,17 +1,15 @@
 -- What is wrong with a record of a trail: a list of grants, ends, changes of capacity, sheddings and
 -- messages of one grandmaster that a report tells, from the front (the project's own choice).
-use Rattle.std.specs.Prelude.{◌≡◌, ℕ, ◌+◌, ◌*◌, ◌^◌, nat_lt, nat_le, Bool, true, false, not, ◌&&◌, ◌||◌, ◌==◌, if◌then◌else◌, List, [], ◌∷◌, ◌++◌, Option, Some, None}
+use Rattle.std.specs.Prelude.{◌≡◌, ℕ, ◌+◌, ◌*◌, ◌^◌, nat_lt, nat_le, Bool, not, ◌&&◌, ◌||◌, ◌==◌, if◌then◌else◌, List, [], ◌∷◌, ◌++◌, Option, Some, None}
 use Rattle.std.specs.{List.{AllByRecursion, find, list_any}, Option.{unwrap_or}}
-use Rattle.ptu_units.specs.declared.{kind.Kind.{Kind}, stamp.Stamp.{Stamp}}
-use Rattle.ptu_units.specs.Log.{IsLogOf, rate_of}
-use Rattle.ptu_units.specs.{declared.client.Client.{Client}, Client.{same_client}, Time.{second}}
-use Rattle.ptu_history.specs.History.{Record, Granted, Short, Ended, Capacity, Shed, Looked, Sent, capacity_in_force}
-use Rattle.ptu_history.specs.{Moments.{book_moment, greatest_by}, Live.{live, live_grants}}
-use Rattle.ptu_history.specs.{Lawful.{earliest}, Verdict.{others, rate_sum}}
+use Rattle.ptu_units.specs.declared.{kind.Kind.{Kind}, stamp.Stamp.{Stamp}, client.Client.{Client}}
+use Rattle.ptu_units.specs.{Log.{IsLogOf, rate_of}, Client.{same_client}, Time.{second}}
+use Rattle.ptu_history.specs.History.{Record, Granted, Ended, Capacity, Shed, Sent, capacity_in_force}
+use Rattle.ptu_history.specs.{Moments.{book_moment, greatest_by}, Verdict.{others, rate_sum}}
+use Rattle.ptu_history.specs.{Live.{live, live_grants}, Lawful.{earliest}}
 use Rattle.ptu_laws.specs.Sound.{sheds_at}
-use Rattle.ptu_trail.specs.declared.cause.{Fault.{Fault}, NoCause.{NoCause}}
 use Rattle.ptu_trail.specs.declared.cause.NoCause.TheVariants as causes
-use Rattle.ptu_trail.specs.declared.cause.Shedding.{Shedding}
+use Rattle.ptu_trail.specs.declared.cause.{Fault.{Fault}, NoCause.{NoCause}, Shedding.{Shedding}}
 
 -- the clients of all decisions, the oldest first: of grants, ends and sheddings
 abbrev pub decided_clients : List Record → List Client
@@ -83,8 +81,7 @@ tests_of opening before (Sent x c k) after =
     (is_no_moment x, causes.Stamp) ∷ (nat_lt x (last_decided before c), causes.Moment)
     ∷ (not (live before x c k), causes.Grant)
     ∷ (nat_lt x (earliest before c k), causes.Early) ∷ []
-tests_of opening before (Short n c) after = []
-tests_of opening before (Looked x j) after = []
+tests_of opening before _ after = []
 
 -- the first of these that is true
 abbrev pub first_no_cause : List (Bool × NoCause) → Option NoCause

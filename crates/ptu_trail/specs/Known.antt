@@ -1,14 +1,13 @@
 -- What is known of one client of a trail.
-use Rattle.std.specs.Prelude.{◌≡◌, ℕ, ◌+◌, max, nat_lt, false, List, if◌then◌else◌, Option, Some, None, ℤ, ◌&&◌}
+use Rattle.std.specs.Prelude.{◌≡◌, ℕ, ◌+◌, nat_lt, false, List, if◌then◌else◌, Option, Some, None, ℤ, ◌&&◌}
 use Rattle.std.specs.Ordering.{int_eq}
 use Rattle.ptu_units.specs.declared.kind.{Kind.{Kind}, Kind.TheVariants.{Announce, Sync, DelayResp}}
 use Rattle.ptu_units.specs.{declared.client.Client.{Client}, Log.{period_of}}
-use Rattle.ptu_history.specs.History.{Granted, Record}
-use Rattle.ptu_history.specs.{Live.{last_decision, live}, Lawful.{earliest}}
-use Rattle.ptu_trail.specs.declared.cause.NoCause.{NoCause}
+use Rattle.ptu_history.specs.{History.{Granted, Record}, Live.{last_decision, live}}
+use Rattle.ptu_history.specs.Lawful.{earliest}
 use Rattle.ptu_trail.specs.declared.cause.NoCause.TheVariants as causes
+use Rattle.ptu_trail.specs.{declared.cause.NoCause.{NoCause}, Faults.{last_decided, last_sent_to}}
 use Rattle.ptu_trail.specs.declared.known.{Known.{Known}, Lease.{Lease}}
-use Rattle.ptu_trail.specs.Faults.{last_decided, last_sent_to}
 
 -- the last grant of the kind, where no other decision came after it
 abbrev pub lease_at : Kind → Known → Option Lease

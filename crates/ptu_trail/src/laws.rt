@@ -5,10 +5,8 @@ ghost use Rattle.std.specs.Prelude.{◌≡◌, ◌≢◌, ℕ, ◌+◌, ◌*◌,
 ghost use Rattle.std.specs.List.{All};
 ghost use Rattle.ptu_units.specs.{declared.kind.Kind.{Kind}, declared.stamp.Stamp.{Stamp}};
 ghost use Rattle.ptu_units.specs.{declared.client.Client.{Client}, Time.{second}};
-ghost use Rattle.ptu_history.specs.History.{Record, Capacity, Sent};
-ghost use Rattle.ptu_history.specs.Lawful.{earliest};
-ghost use Rattle.ptu_history.specs.Held.{payments};
-ghost use Rattle.ptu_history.specs.Counts.{is_shedding};
+ghost use Rattle.ptu_history.specs.{History.{Record, Capacity, Sent}, Lawful.{earliest}};
+ghost use Rattle.ptu_history.specs.{Counts.{is_shedding}, Held.{payments}};
 ghost use Rattle.ptu_laws.specs.{Paid.{IsPaid}, Promises.{KeepsPromises}, Sound.{IsSound}};
 ghost use Rattle.ptu_trail.specs.declared.cause.NoCause.TheVariants as causes;
 ghost use Rattle.ptu_trail.specs.declared.cause.Shedding.{Shedding};

@@ -1,4 +1,4 @@
-mod Tables
+pub mod Tables
 pub mod Keys
 pub mod Counts
 pub mod BigEndian

@@ -3,9 +3,7 @@ use Rattle.ptu_lines.specs.Script.{script_lines}
 use Rattle.ptu_outside.specs.Handing.{HasPut}
 use Rattle.ptu_report.proofs.Answered.{answers_also, answers_none, fails_also}
 use Rattle.ptu_audit.specs.{Reading.{audit_rules, first_reading}, Texts.{answer_text}}
-use Rattle.ptu_audit.proofs.Answering.{answer_is, lines_are, told}
-use Rattle.ptu_audit.proofs.Promises.{answer_kept, whole_read}
-use Rattle.ptu_audit.proofs.Refusing.{refusal_exact, refusal_written}
+use Rattle.ptu_audit.proofs.Promises.{answer_is, answer_kept, lines_are, refusal_exact, refusal_written, told, whole_read}
 use Rattle.ptu_audit.proofs.auditing.audit.Goals as goal
 
 pub returns-in-Ok-answer-clause-exact : goal.returns-in-Ok-answer-clause-exact

@@ -1,6 +1,6 @@
 use Rattle.std.proofs.Common.{◌∙◌, ap}
 use Rattle.ptu_audit.specs.Groups.{last_apart}
-use Rattle.ptu_audit.proofs.Grouping.{last_apart-push}
+use Rattle.ptu_audit.proofs.Closing.{last_apart-push}
 use Rattle.ptu_audit.proofs.groups.decided_acts.Goals as goal
 
 pub returns-in-Some : goal.returns-in-Some

@@ -1,12 +1,8 @@
-use Rattle.ptu_audit.proofs.Exact.{none_from, sound_from}
+use Rattle.ptu_audit.proofs.Faultless.{Laws, none_from, sound_from}
 use Rattle.ptu_audit.proofs.laws.findings.Goals as goal
 
-pub returns-clause-sound : goal.returns-clause-sound
-returns-clause-sound c =
-    let laws = c.faultless_so_far.ensures in
-    sound_from (record { none = laws.none; one_more = laws.one_more; change = laws.change; first = laws.first })
-
-pub returns-clause-none : goal.returns-clause-none
-returns-clause-none c =
-    let laws = c.faultless_so_far.ensures in
-    none_from (record { none = laws.none; one_more = laws.one_more; change = laws.change; first = laws.first })
+pub returns : goal.returns
+returns c =
+    let all = c.faultless_so_far.ensures in
+    let laws : Laws = record { none = all.none; one_more = all.one_more; change = all.change; first = all.first } in
+    record { sound = sound_from laws; none = none_from laws }

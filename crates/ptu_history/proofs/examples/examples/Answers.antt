@@ -1,18 +1,10 @@
 use Rattle.std.proofs.Common.{refl}
-use Rattle.ptu_history.specs.History.{capacity_in_force, lease_records}
-use Rattle.ptu_history.specs.Moments.{book_moment, table_moment}
-use Rattle.ptu_history.specs.Live.{last_decision, live, live_grants, standing}
-use Rattle.ptu_history.specs.Runs.{chain, sent_in_chain, sequence_number}
-use Rattle.ptu_history.specs.Lawful.{earliest, last_period, lawful}
-use Rattle.ptu_history.specs.{Verdict.{others, own_rate, table_rates, verdict}, Counts.{counts}}
-use Rattle.ptu_history.specs.{Turns.{due_grants}, Shedding.{shed_grants, shed_order}}
-use Rattle.ptu_history.specs.Step.{delay_answer}
-use Rattle.ptu_history.specs.Core.{book_step_moment, core_history, history_after, core_outcomes, outcomes_after, table_step_moment}
-use Rattle.ptu_history.specs.Held.{budget, count, force, held, payments, payments_after, terms}
+use Rattle.ptu_history.specs.Held.{budget}
+use Rattle.ptu_history.proofs.OnLiterals.{histories_on_literals}
 use Rattle.ptu_history.proofs.examples.examples.Goals as goal
 
 pub returns : goal.returns
-unfolding lease_records capacity_in_force book_moment table_moment last_decision live standing live_grants sent_in_chain chain sequence_number last_period earliest lawful others own_rate table_rates verdict counts due_grants shed_order shed_grants delay_answer table_step_moment book_step_moment history_after core_history outcomes_after core_outcomes terms held force budget payments_after payments count
+unfolding histories_on_literals budget
 returns _ = record {
   exactly_full = refl;
   one_short = refl;

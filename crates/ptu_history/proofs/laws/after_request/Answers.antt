@@ -1,9 +1,8 @@
 use Rattle.std.proofs.Common.{◌≡◌, ℕ, ◌+◌, ◌++◌, List, [], ◌∷◌, Bool, true, false, cond, refl, ap, ℤ}
-use Rattle.ptu_units.specs.{declared.kind.Kind.{Kind}, Log.{period_of}}
-use Rattle.ptu_units.specs.declared.client.Client.{Client}
-use Rattle.ptu_history.specs.History.{Record, Granted}
-use Rattle.ptu_history.specs.{Live.{last_decision, live}, Runs.{continues}, Lawful.{earliest}}
-use Rattle.ptu_history.specs.Step.{verdict_records}
+use Rattle.ptu_units.specs.declared.{kind.Kind.{Kind}, client.Client.{Client}}
+use Rattle.ptu_units.specs.Log.{period_of}
+use Rattle.ptu_history.specs.{History.{Record, Granted}, Live.{last_decision, live}}
+use Rattle.ptu_history.specs.{Runs.{continues}, Lawful.{earliest}, Step.{verdict_records}}
 use Rattle.ptu_history.proofs.LiveGrants.{Continued, continued}
 use Rattle.ptu_history.proofs.Renewals.{chain_is, earliest_new, earliest_same, root_is, sequence_is}
 use Rattle.ptu_history.proofs.laws.after_request.Goals as goal

@@ -1,12 +1,10 @@
-use Rattle.std.proofs.Common.{◌≡◌, ℕ, List, ◌∷◌, map, max, ap, refl}
-use Rattle.ptu_units.specs.{declared.client.Client.{Client}, Client.{table_of}}
-use Rattle.ptu_history.specs.{History.{Ended, Looked}, Moments.{book_part, greatest_by}}
-use Rattle.ptu_history.specs.{Live.{Grant}, Events.{Answer, Answered, NoGrant, TooSoon}}
-use Rattle.ptu_history.specs.{Turns.{due_grants, sent_record}, Shedding.{shed_grants}}
-use Rattle.ptu_history.specs.Step.{answer_records, delay_answer}
-use Rattle.ptu_history.proofs.AfterSteps.{table_moment-asked}
+use Rattle.std.proofs.Common.{◌≡◌, ℕ, List, ◌∷◌, map, max, ap}
+use Rattle.ptu_units.specs.Client.{table_of}
+use Rattle.ptu_history.specs.{History.{Ended, Looked}, Turns.{due_grants, sent_record}}
+use Rattle.ptu_history.specs.{Moments.{book_part, greatest_by}, Step.{answer_records, delay_answer}}
+use Rattle.ptu_history.specs.{Live.{Grant}, Shedding.{shed_grants}}
+use Rattle.ptu_history.proofs.{AfterSteps.{table_moment-asked}, Orders.{due_grants-table}}
 use Rattle.ptu_history.proofs.Moments.{book_moment-none, book_moment-push, book_moment-resized, greatest-sent, table_moment-looked, table_moment-push, table_moment-sheds, answer_looked}
-use Rattle.ptu_history.proofs.Orders.{due_grants-table}
 use Rattle.ptu_history.proofs.Verdicts.{book_moment-verdict, records-outside, table_moment-verdict}
 use Rattle.ptu_history.proofs.laws.moments_after.Goals as goal
 

@@ -1,6 +1,5 @@
-use Rattle.ptu_history.proofs.Standing.{last_pushed}
+use Rattle.ptu_history.proofs.{Standing.{last_pushed}, LeaseRecords.{lease_records-push}}
 use Rattle.ptu_history.proofs.Strangers.{chain-push, earliest-push, last_period-push, lawful-push, live-undecided_push, sequence_number-push}
-use Rattle.ptu_history.proofs.LeaseRecords.{lease_records-push}
 use Rattle.ptu_history.proofs.laws.one_more_record.Goals as goal
 
 pub returns : goal.returns

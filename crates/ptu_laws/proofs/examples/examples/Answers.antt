@@ -1,24 +1,16 @@
 use Rattle.std.proofs.Common.{◌≡◌, ◌⊎◌, inl, inr, ◌<◌, ◌≤◌, ◌∙◌, ℕ, zero, suc, ◌+◌, ◌*◌, List, [], ◌∷◌, Bool, true, false, leb, ap, subst, arith, pos, refl, sym}
-use Rattle.std.specs.List.{Contains}
 use Rattle.std.proofs.lemmas.{Bool.{false≢true, leb-false, leb-true}, Int.{ints}}
+use Rattle.std.specs.List.{Contains}
 use Rattle.ptu_units.specs.{declared.kind.Kind.TheVariants.{Sync}, Log.{IsLogOf}}
-use Rattle.ptu_history.specs.History.{Record, Granted, Ended, Capacity, Sent, capacity_in_force, lease_records}
-use Rattle.ptu_history.specs.Moments.{book_moment, table_moment}
-use Rattle.ptu_history.specs.Live.{last_decision, live, live_grants, standing}
-use Rattle.ptu_history.specs.Runs.{chain, sent_in_chain, sequence_number}
-use Rattle.ptu_history.specs.{Lawful.{earliest, last_period, lawful}, Verdict.{others, verdict}}
-use Rattle.ptu_history.specs.{Turns.{due_grants}, Shedding.{shed_grants, shed_order}}
-use Rattle.ptu_history.specs.Step.{delay_answer}
-use Rattle.ptu_history.specs.Core.{book_step_moment, core_history, history_after, table_step_moment}
-use Rattle.ptu_history.specs.Held.{budget, count, force, held, terms}
+use Rattle.ptu_history.specs.{Core.{core_history}, History.{Record, Granted, Ended, Capacity, Sent}}
+use Rattle.ptu_history.specs.Held.{budget, count}
 use Rattle.ptu_history.specs.Examples.{config_of, first_client, seconds, sync_and_turns, third_client}
-use Rattle.ptu_history.proofs.Capacities.{budget-same}
+use Rattle.ptu_history.proofs.{Capacities.{budget-same}, OnLiterals.{histories_on_literals}}
 use Rattle.ptu_laws.proofs.Budget.{history-unchanged}
-use Rattle.ptu_laws.specs.{Paid.{is_held_at}, Sound.{IsSound, last_sent}}
+use Rattle.ptu_laws.proofs.{Served.{held_time-all, periods-sound}, Stands.{sound-core, sound-from}}
+use Rattle.ptu_laws.specs.{Paid.{is_held_at}, Sound.{IsSound, last_sent}, Examples.{just_missed}}
 use Rattle.ptu_laws.specs.Served.{count_below, held_time, held_time_at, is_held, periods_sent, sent_at, sum_sent}
-use Rattle.ptu_laws.specs.{Examples.{just_missed}, Turned.{IsInEach, sent_moments, turn_moments, turns_after}}
-use Rattle.ptu_laws.proofs.Served.{held_time-all, periods-sound}
-use Rattle.ptu_laws.proofs.Stands.{sound-core, sound-from}
+use Rattle.ptu_laws.specs.Turned.{IsInEach, sent_moments, turn_moments, turns_after}
 use Rattle.ptu_laws.proofs.examples.examples.Goals as goal
 
 -- a turn at each second to the tenth
@@ -26,7 +18,7 @@ after : List Record
 after = core_history (config_of 16 300) (sync_and_turns (1 ∷ 2 ∷ 3 ∷ 4 ∷ 5 ∷ 6 ∷ 7 ∷ 8 ∷ 9 ∷ 10 ∷ []))
 
 ten_sent : count after (seconds 10) ≡ 10
-unfolding after lease_records capacity_in_force book_moment table_moment last_decision live standing live_grants sent_in_chain chain sequence_number last_period earliest lawful others verdict due_grants delay_answer table_step_moment book_step_moment history_after core_history count
+unfolding after histories_on_literals
 ten_sent = refl
 
 wholly : count after (seconds 10) * (16 * 1000000000) ≡ budget 16 after (seconds 10)
@@ -41,7 +33,7 @@ unfolding after
 whole_budget = wholly
 
 ten_periods : periods_sent after first_client Sync (seconds 10) ≡ seconds 10
-unfolding after lease_records capacity_in_force book_moment table_moment last_decision live standing live_grants sent_in_chain chain sequence_number last_period earliest lawful others verdict due_grants delay_answer table_step_moment book_step_moment history_after core_history periods_sent sum_sent
+unfolding after histories_on_literals periods_sent sum_sent
 ten_periods = refl
 
 -- ten messages of a second each, and no more time is held than there is
@@ -101,11 +93,11 @@ up_to_end y from inside = (1, (0, omega arith, refl), omega (arith, inside), ome
 
 -- turns a second apart, just before each second
 missed_turns : turn_moments (config_of 16 300) just_missed 2 ≡ 999999999 ∷ 1999999999 ∷ []
-unfolding lease_records capacity_in_force book_moment table_moment last_decision live standing live_grants sent_in_chain chain sequence_number last_period earliest lawful others verdict due_grants delay_answer table_step_moment book_step_moment history_after core_history turns_after turn_moments
+unfolding histories_on_literals turns_after turn_moments
 missed_turns = refl
 
 missed_message : sent_moments (core_history (config_of 16 300) just_missed) first_client Sync ≡ 1999999999 ∷ []
-unfolding lease_records capacity_in_force book_moment table_moment last_decision live standing live_grants sent_in_chain chain sequence_number last_period earliest lawful others verdict due_grants delay_answer table_step_moment book_step_moment history_after core_history sent_moments
+unfolding histories_on_literals sent_moments
 missed_message = refl
 
 in_seconds : IsInEach (seconds 1) (999999999 ∷ 1999999999 ∷ []) 0 (seconds 2)
@@ -137,14 +129,14 @@ too_much le = absurd (omega (arith, le))
 
 -- both grants, the message and the end, each behind those before it
 beside : IsSound 32 (Granted 0 first_client Sync (pos 0) (seconds 300) ∷ Granted 0 third_client Sync (pos 0) (seconds 300) ∷ Sent (seconds 2) third_client Sync ∷ Ended (seconds 1) first_client Sync ∷ [])
-unfolding lease_records capacity_in_force book_moment last_decision live standing live_grants sent_in_chain chain last_period earliest lawful others last_sent
+unfolding histories_on_literals last_sent
 beside = sound-from 32 _ (
   ((omega arith, omega arith), in_range, omega arith),
   (((omega arith, omega arith), in_range, omega arith), (refl, ((omega arith, omega arith), tt))),
 )
 
 pub returns : goal.returns
-unfolding last_sent lease_records capacity_in_force book_moment table_moment last_decision live standing live_grants sent_in_chain chain sequence_number last_period earliest lawful others verdict due_grants shed_order shed_grants delay_answer table_step_moment book_step_moment history_after core_history terms held force count sum_sent periods_sent sent_at count_below is_held is_held_at held_time held_time_at turns_after turn_moments sent_moments
+unfolding last_sent histories_on_literals sum_sent periods_sent sent_at count_below is_held is_held_at held_time held_time_at turns_after turn_moments sent_moments
 returns _ = record {
   budget_is_used_wholly = whole_budget;
   turns_backwards_send_one = refl;

@@ -1,7 +1,6 @@
 use Rattle.ptu_history.specs.Core.{core_history}
-use Rattle.ptu_laws.proofs.Bounds.{payment-there}
+use Rattle.ptu_laws.proofs.{Bounds.{payment-there}, Stands.{follow-core}}
 use Rattle.ptu_laws.proofs.Payments.{message-paid, payments-apart, payments-paid}
-use Rattle.ptu_laws.proofs.Stands.{follow-core}
 use Rattle.ptu_laws.proofs.laws.payments_are_held.Goals as goal
 
 pub returns : goal.returns

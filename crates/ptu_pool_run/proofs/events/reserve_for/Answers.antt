@@ -1,6 +1,4 @@
-use Rattle.std.proofs.Common.{◌≡◌, ◌∙◌, ℕ, position, sym, subst, Some, None}
-use Rattle.std.proofs.lemmas.Result.{on_ok_weaker}
-use Rattle.ptu_pool_run.specs.Pool.{is_in}
+use Rattle.std.proofs.{Common.{◌≡◌, ◌∙◌, sym, Some, None}, lemmas.Result.{on_ok_weaker}}
 use Rattle.ptu_pool_run.proofs.events.reserve_for.Goals as goal
 
 pub returns-in-None-clause-room : goal.returns-in-None-clause-room

@@ -1,23 +1,7 @@
 use Rattle.std.proofs.Common.{refl}
-use Rattle.std.specs.Fmt.{digits}
-use Rattle.hex.specs.Hex.{decode_pairs, encode_with}
-use Rattle.ptu_messages.specs.HeaderReading.{header_in}
-use Rattle.ptu_messages.specs.TlvsReading.{tlv_in}
-use Rattle.ptu_messages.specs.Reading.{tlvs_in, body_in, message_in}
-use Rattle.ptu_messages.specs.Sent.{octets_sent}
-use Rattle.ptu_history.specs.Core.{table_step_moment, book_step_moment, core_history, history_after}
-use Rattle.ptu_history.specs.History.{lease_records, capacity_in_force}
-use Rattle.ptu_history.specs.Lawful.{last_period, earliest, lawful}
-use Rattle.ptu_history.specs.Live.{last_decision, live, standing, live_grants}
-use Rattle.ptu_history.specs.Moments.{book_moment, table_moment}
-use Rattle.ptu_history.specs.Runs.{root, chain, sent_in_chain, sequence_number}
-use Rattle.ptu_history.specs.Step.{delay_answer}
-use Rattle.ptu_history.specs.{Turns.{due_grants}, Verdict.{others, own_rate, verdict}}
-use Rattle.ptu_gm_messages.specs.{Deciding.{placed}, Items.{items_in, heard_in}}
-use Rattle.ptu_script.specs.Command.{grandmaster_in}
-use Rattle.ptu_pool_run.specs.{Command.{pool_command_of, pool_fields_in}, Poured.{told_in}, Reading.{pool_rules}}
+use Rattle.ptu_pool_run.proofs.OnLiterals.{outputs_on_literals}
 use Rattle.ptu_pool_run.proofs.examples.two_customers.Goals as goal
 
 pub returns : goal.returns
-unfolding digits grandmaster_in pool_fields_in pool_command_of told_in pool_rules decode_pairs encode_with header_in tlv_in tlvs_in body_in message_in table_step_moment book_step_moment core_history history_after lease_records capacity_in_force last_period earliest lawful last_decision live standing live_grants book_moment table_moment root chain sent_in_chain sequence_number delay_answer due_grants others own_rate verdict octets_sent placed items_in heard_in
+unfolding outputs_on_literals
 returns c = record { requests = refl; turns = refl }

@@ -1,7 +1,7 @@
-use Rattle.std.proofs.Common.{◌≡◌, ◌∙◌, sym, subst, ap, length, take, get_or, arith, Some, None}
+use Rattle.std.proofs.Common.{◌≡◌, ◌∙◌, sym, subst, take, arith, Some, None}
 use Rattle.std.specs.List.{position}
 use Rattle.ptu_pool_run.specs.Pool.{meets}
-use Rattle.ptu_pool_run.proofs.Apart.{all_apart, first_found, none_found}
+use Rattle.ptu_pool_run.proofs.Places.{all_apart, first_found, none_found}
 use Rattle.ptu_pool_run.proofs.judging.overlap.Goals as goal
 
 pub returns-in-Some : goal.returns-in-Some

@@ -1,4 +1,4 @@
-use Rattle.ptu_pool_run.proofs.Apart.{NoneBelow}
+use Rattle.ptu_pool_run.proofs.Places.{NoneBelow}
 use Rattle.ptu_pool_run.proofs.judging.overlap.Given as goal
 
 abbrev pub invariant-loop-second : goal.invariant-loop-second

@@ -1,4 +1,4 @@
-use Rattle.ptu_pool_run.proofs.{Alone.{others_left_out, same_own, same_pool}, Places.{one_place}}
+use Rattle.ptu_pool_run.proofs.{Standing.{others_left_out, same_own, same_pool}, Places.{one_place}}
 use Rattle.ptu_pool_run.proofs.laws.pools_stand_apart.Goals as goal
 
 pub returns : goal.returns

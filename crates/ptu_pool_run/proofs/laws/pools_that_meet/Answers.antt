@@ -1,4 +1,4 @@
-use Rattle.ptu_pool_run.proofs.Apart.{met_shared, shared_met}
+use Rattle.ptu_pool_run.proofs.Places.{met_shared, shared_met}
 use Rattle.ptu_pool_run.proofs.laws.pools_that_meet.Goals as goal
 
 pub returns : goal.returns

@@ -1,8 +1,8 @@
-use Rattle.std.proofs.Common.{◌≡◌, ◌∙◌, ◌++◌, ◌∷◌, [], refl, sym, ap, arith, length, length-append, slice_get, Some}
+use Rattle.std.proofs.Common.{◌≡◌, ◌∙◌, ◌++◌, ◌∷◌, [], sym, ap, arith, length, length-append, slice_get, Some}
+use Rattle.std.proofs.lemmas.Option.{MatchOption-at_some, slice_get-get_or}
 use Rattle.std.specs.Vec.Iter.{into_iter_items}
-use Rattle.std.proofs.lemmas.Option.{slice_get-get_or}
 use Rattle.ptu_pool_run.specs.{declared.pool.Pool.{Pool}, PoolsStanding.{ports_of_all}}
-use Rattle.ptu_pool_run.proofs.Fresh.{at_some, five_are, fresh-push, ports-push, rest_long, rest_none}
+use Rattle.ptu_pool_run.proofs.Standing.{five_are, fresh-push, ports-push, rest_long, rest_none}
 use Rattle.ptu_pool_run.proofs.making.grandmasters.Goals as goal
 
 pub unwrap-p0-requires : goal.unwrap-p0-requires
@@ -18,7 +18,7 @@ loop-pool-preserved g c =
     let gm = c.new.result in
     let left = into_iter_items c.next_five.new.ports in
     let made = c.new.ensures in
-    let taken = at_some _ (λ five. into_iter_items c.loop-pool.rest ≡ five.0 ∷ five.1 ∷ five.2 ∷ five.3 ∷ five.4 ∷ left) c.next_five.result c.unwrap-p0.result c.unwrap-p0.ensures c.next_five.ensures in
+    let taken = MatchOption-at_some _ (λ five. into_iter_items c.loop-pool.rest ≡ five.0 ∷ five.1 ∷ five.2 ∷ five.3 ∷ five.4 ∷ left) c.unwrap-p0.result c.unwrap-p0.ensures c.next_five.ensures in
     let pool : Pool = c.pool-item.result in
     let pool_at : slice_get c.args.pools.now c.loop-pool.pool-index ≡ Some pool =
     slice_get-get_or c.args.pools.now c.loop-pool.pool-index pool c.loop-pool-test.true ∙ ap (λ (p : Pool). Some p) (sym c.pool-item.is) in

@@ -1,5 +1,5 @@
 use Rattle.std.proofs.Common.{rules}
-use Rattle.ptu_pool_run.proofs.Telling.{next_told_behind}
+use Rattle.ptu_pool_run.proofs.Lent.{next_told_behind}
 use Rattle.ptu_pool_run.proofs.room.tell.Goals as goal
 
 pub datagrams-preserved : goal.datagrams-preserved

@@ -1,5 +1,5 @@
 use Rattle.std.proofs.Common.{◌-◌, length}
-use Rattle.ptu_pool_run.proofs.Telling.{AreToldBehind}
+use Rattle.ptu_pool_run.proofs.Lent.{AreToldBehind}
 use Rattle.ptu_pool_run.proofs.room.tell.Given as goal
 
 abbrev pub invariant-datagrams : goal.invariant-datagrams

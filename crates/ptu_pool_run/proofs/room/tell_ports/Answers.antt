@@ -1,5 +1,5 @@
 use Rattle.std.proofs.lemmas.Result.{on_ok_weaker}
-use Rattle.ptu_pool_run.proofs.Telling.{all_told, emptied}
+use Rattle.ptu_pool_run.proofs.Lent.{all_told, emptied}
 use Rattle.ptu_pool_run.proofs.room.tell_ports.Goals as goal
 
 pub returns-clause-says : goal.returns-clause-says

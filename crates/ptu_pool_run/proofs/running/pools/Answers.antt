@@ -1,6 +1,6 @@
 use Rattle.ptu_report.proofs.Answered.{run_through_by}
 use Rattle.ptu_pool_run.specs.Reading.{none_told, pool_rules}
-use Rattle.ptu_pool_run.proofs.{Keeping.{texts_of_script}, Poured.{has_poured}, Promising.{keeps_pools}}
+use Rattle.ptu_pool_run.proofs.{Keeping.{has_poured, texts_of_script}, Promising.{keeps_pools}}
 use Rattle.ptu_pool_run.proofs.running.pools.Goals as goal
 
 pub returns-clause-whole : goal.returns-clause-whole

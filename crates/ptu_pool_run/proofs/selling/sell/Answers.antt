@@ -2,7 +2,7 @@ use Rattle.std.proofs.Common.{rules, arith, ◌≡◌, ◌∙◌, ◌++◌, ◌�
 use Rattle.ptu_pool_run.specs.{Refusal.{IsRefused, Share}, PoolsStanding.{StandFor}}
 use Rattle.ptu_pool_run.specs.declared.pools_fault.PoolsFault.TheVariants.{OutOfMemory}
 use Rattle.ptu_profile.specs.declared.grandmaster.GmConfig.{GmConfig}
-use Rattle.ptu_pool_run.proofs.{Idle.{sold_fresh}, Sold.{cause_of_fault, refused_so}}
+use Rattle.ptu_pool_run.proofs.{Commands.{sold_fresh}, Places.{cause_of_fault, refused_so}}
 use Rattle.ptu_pool_run.proofs.selling.sell.Goals as goal
 
 pub returns-in-Err-Overlap-clause-refused : goal.returns-in-Err-Overlap-clause-refused

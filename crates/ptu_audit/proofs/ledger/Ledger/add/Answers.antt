@@ -1,8 +1,6 @@
-use Rattle.std.proofs.Common.{◌≡◌, ◌∙◌, ◌++◌, List, Some, None, nat_cmp, refl, sym, ap, subst}
+use Rattle.std.proofs.Common.{◌≡◌, ◌∙◌, ◌++◌, Some, nat_cmp, refl, sym, ap, subst}
 use Rattle.std.specs.{BTreeMap.{get}, Option.{IsSome, option_copied_mut}}
-use Rattle.std.specs.Prelude.{Result, Ok, Err, IfOk}
-use Rattle.ptu_trail.proofs.Accounts.{if_none_map}
-use Rattle.ptu_trail.proofs.Judging.{if_ok_map}
+use Rattle.ptu_trail.proofs.{Accounts.{if_none_map}, Judging.{if_ok_map}}
 use Rattle.ptu_audit.specs.{Standing.{IsTrailKept}, Trails.{records_of}}
 use Rattle.ptu_audit.proofs.Ledgers.{others_now, there_now}
 use Rattle.ptu_audit.proofs.ledger.Ledger.add.Goals as goal

@@ -1,5 +1,5 @@
 use Rattle.std.proofs.Common.{◌∙◌, ◌++◌, take, sym}
-use Rattle.ptu_audit.proofs.Findings.{one_taken}
+use Rattle.ptu_audit.proofs.Closing.{one_taken}
 use Rattle.ptu_trail.proofs.Accounts.{if_none_at}
 use Rattle.ptu_audit.proofs.ledger.Ledger.take_all.Goals as goal
 

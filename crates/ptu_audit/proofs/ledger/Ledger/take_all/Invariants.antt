@@ -1,6 +1,6 @@
 use Rattle.std.proofs.Common.{◌≡◌, List}
 use Rattle.ptu_audit.specs.{declared.deed.Act.{Act}, Standing.{AreKept}}
-use Rattle.ptu_audit.proofs.Findings.{AreTaken}
+use Rattle.ptu_audit.proofs.Closing.{AreTaken}
 use Rattle.ptu_audit.proofs.ledger.Ledger.take_all.Given as goal
 
 -- the acts so far have no finding

@@ -1,7 +1,7 @@
-use Rattle.std.proofs.Common.{◌≡◌, ◌∙◌, ◌≤◌, sym, ap, subst, arith, length, List}
-use Rattle.ptu_pool_run.specs.{declared.pool.Pool.{Pool}, Making.{AreFresh}, Pool.{AreApart}}
-use Rattle.ptu_pool_run.specs.PoolsStanding.{KeptPools}
-use Rattle.ptu_pool_run.proofs.Fresh.{fresh-stand}
+use Rattle.std.proofs.Common.{◌∙◌, sym, ap, subst, arith, length, List}
+use Rattle.ptu_pool_run.specs.{declared.pool.Pool.{Pool}, PoolsStanding.{KeptPools}}
+use Rattle.ptu_pool_run.specs.{Making.{AreFresh}, Pool.{AreApart}}
+use Rattle.ptu_pool_run.proofs.Standing.{fresh-stand}
 use Rattle.ptu_pool_run.proofs.pool_set.Pools.assembled.Goals as goal
 
 pub invariant_of-result : goal.invariant_of-result

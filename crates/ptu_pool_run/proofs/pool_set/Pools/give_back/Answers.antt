@@ -1,5 +1,4 @@
-use Rattle.std.proofs.Common.{◌∙◌, List, ap, set}
-use Rattle.std.proofs.lemmas.List.{set-get_or}
+use Rattle.std.proofs.{Common.{◌∙◌, List, ap, set}, lemmas.List.{set-get_or}}
 use Rattle.ptu_grandmaster.specs.Gm.{KeptGm}
 use Rattle.ptu_pool_run.specs.PoolsStanding.{KeptPools}
 use Rattle.ptu_pool_run.proofs.pool_set.Pools.give_back.Goals as goal

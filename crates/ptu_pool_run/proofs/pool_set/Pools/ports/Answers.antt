@@ -2,7 +2,7 @@ use Rattle.std.proofs.Common.{◌≡◌, ◌∙◌, ◌<◌, List, refl, sym, ap
 use Rattle.std.proofs.lemmas.Option.{slice_get-get_or}
 use Rattle.ptu_grandmaster.specs.Gm.{KeptGm, port_at, with_port}
 use Rattle.ptu_pool_run.specs.{Ported.{with_port_at}, PoolsStanding.{KeptPools}}
-use Rattle.ptu_pool_run.proofs.Ported.{stand-ported, with_port_set}
+use Rattle.ptu_pool_run.proofs.Lent.{stand-ported, with_port_set}
 use Rattle.ptu_pool_run.proofs.pool_set.Pools.ports.Goals as goal
 
 pub returns : goal.returns

@@ -1,6 +1,6 @@
 use Rattle.std.proofs.Common.{◌≡◌, ◌∙◌, refl, sym, position, None, rules}
 use Rattle.ptu_pool_run.specs.{Pool.{is_in}, PoolsStanding.{KeptPools}}
-use Rattle.ptu_pool_run.proofs.Taken.{at_place, changes_one, in_none, is_there, on_err, still_stands, stranger_stands, taken_stands}
+use Rattle.ptu_pool_run.proofs.Standing.{at_place, changes_one, in_none, is_there, on_err, still_stands, stranger_stands, taken_stands}
 use Rattle.ptu_pool_run.proofs.pool_set.Pools.take.Goals as goal
 
 pub returns-in_default : goal.returns-in_default

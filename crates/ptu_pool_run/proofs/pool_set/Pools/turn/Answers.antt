@@ -2,7 +2,7 @@ use Rattle.std.proofs.Common.{◌≡◌, ◌∙◌, ◌<◌, sym, ap, arith, len
 use Rattle.std.proofs.lemmas.Option.{slice_get-get_or}
 use Rattle.ptu_grandmaster.specs.Gm.{table_at}
 use Rattle.ptu_pool_run.specs.PoolsStanding.{KeptPools}
-use Rattle.ptu_pool_run.proofs.Taken.{changes_one, turned_stands}
+use Rattle.ptu_pool_run.proofs.Standing.{changes_one, turned_stands}
 use Rattle.ptu_pool_run.proofs.pool_set.Pools.turn.Goals as goal
 
 pub returns : goal.returns

@@ -1,7 +1,5 @@
 use Rattle.std.proofs.Common.{◌-◌, ◌≤◌, arith, length, subst, ap}
-use Rattle.ptu_pool_run.specs.Standing.{HasHappened}
-use Rattle.ptu_pool_run.specs.Events.{Turned}
-use Rattle.ptu_pool_run.specs.Reading.{pool_events}
+use Rattle.ptu_pool_run.specs.{Standing.{HasHappened}, Events.{Turned}, Reading.{pool_events}}
 use Rattle.ptu_pool_run.proofs.Commands.{has_pools, turned_so}
 use Rattle.ptu_pool_run.proofs.pouring.Pouring.turn.Goals as goal
 

@@ -1,8 +1,7 @@
 use Rattle.std.proofs.Common.{◌≡◌, ◌∙◌, ◌++◌, [], ◌∷◌, Option, Some, None, max, sym, ap, subst, IfNone}
 use Rattle.ptu_units.specs.Log.{period_of}
-use Rattle.ptu_history.specs.History.{Sent}
+use Rattle.ptu_history.specs.{History.{Sent}, Lawful.{edge_after}}
 use Rattle.ptu_trail.specs.declared.known.{Known.{Known}, Lease.{Lease}}
-use Rattle.ptu_history.specs.Lawful.{edge_after}
 use Rattle.ptu_trail.specs.Known.{IsKnown, with_lease}
 use Rattle.ptu_trail.proofs.Knowing.{message_fault, message_goes, sent_with}
 use Rattle.ptu_trail.proofs.known.Known.message.Goals as goal

@@ -1,8 +1,7 @@
 use Rattle.std.proofs.Common.{◌≡◌, ◌∙◌, ◌≤◌, ◌++◌, ◌∷◌, [], List, ℕ, map, refl, sym, ap, subst}
 use Rattle.ptu_history.specs.{History.{Record, Capacity}, Moments.{book_moment}}
-use Rattle.ptu_trail.specs.{declared.trail.Trail.{Trail}, Clients.{AreKnown}}
-use Rattle.ptu_trail.specs.{Faults.{first_fault, or_behind, record_of}, Live.{AreLive}}
-use Rattle.ptu_trail.specs.Trail.{StandsFor}
+use Rattle.ptu_trail.specs.{declared.trail.Trail.{Trail}, Live.{AreLive}, Trail.{StandsFor}}
+use Rattle.ptu_trail.specs.{Clients.{AreKnown}, Faults.{first_fault, or_behind, record_of}}
 use Rattle.ptu_trail.proofs.Accounts.{if_none_at, if_none_map}
 use Rattle.ptu_trail.proofs.Judging.{begin_known, if_ok_map, known_changed, moment_one, stands_changed}
 use Rattle.ptu_trail.proofs.trail.Trail.change.Goals as goal

@@ -1,9 +1,7 @@
 use Rattle.std.proofs.Common.{◌∙◌, refl, sym, subst}
 use Rattle.ptu_history.specs.{History.{Ended}, Live.{live_grants}, Moments.{book_moment}}
-use Rattle.ptu_trail.specs.Live.{AreOf}
-use Rattle.ptu_trail.proofs.Living.{grants_ended}
-use Rattle.ptu_trail.specs.declared.trail.Trail.{Trail}
-use Rattle.ptu_trail.proofs.Accounts.{if_none_map}
+use Rattle.ptu_trail.specs.{Live.{AreOf}, declared.trail.Trail.{Trail}}
+use Rattle.ptu_trail.proofs.{Living.{grants_ended}, Accounts.{if_none_map}}
 use Rattle.ptu_trail.proofs.Judging.{placed_from, placed_le, stands_decided}
 use Rattle.ptu_trail.proofs.trail.Trail.end.Goals as goal
 
