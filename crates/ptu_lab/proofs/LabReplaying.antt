@@ -134,8 +134,12 @@ module _ {K : Type 0} (W : K → Option (List ℕ)) (H : K → Option (List (Lis
   numbers_are : (done : Done) → HasReplayed W H old new no_judges script (endings.Whole done.lines) → AreCounts no_judges script done → done ≡ numbers_of script
   unfolding numbers_of
   numbers_are done r counts =
-      rw (lines_counted no_judges script done.lines (ending_of rules (course_opening no_judges) (script_lines script)) refl (ends_of_rules no_judges script) r.ends,
-      counts.datagrams, counts.granted, counts.refused) refl
+      rw (
+        lines_counted no_judges script done.lines (ending_of rules (course_opening no_judges) (script_lines script)) refl (ends_of_rules no_judges script) r.ends,
+        counts.datagrams,
+        counts.granted,
+        counts.refused,
+      ) refl
 
   pub numbers : (stock : Stock) (answer : Result Done (RunFault Cause)) → stock ≡ no_judges → IfReplayed answer (HasReplayed W H old new stock script)
       → IfOk answer (AreCounts stock script) → IfOk answer (λ done. done ≡ numbers_of script)

@@ -316,4 +316,3 @@ unanswered ports clocks d port now port' clock clock' old new same first rest un
       refused = no_less.1;
       moments = passed_one (clocks.moments clock) (clocks.moments clock') moved;
     })
-

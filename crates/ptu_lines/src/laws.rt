@@ -86,7 +86,7 @@ pub fn sample_texts()
     ensures names { (address_text 0x0a000111 ≡ codes "10.0.1.17")
         × (clock_text 0x0a00000000000011 ≡ codes "0a00000000000011")
         × (identity_text (record { clock = 0xffffffffffffffff; port = 65535 })
-            ≡ codes "ffffffffffffffff/65535")
+        ≡ codes "ffffffffffffffff/65535")
         × (kind_text kinds.Announce ≡ codes "announce")
         × (kind_text kinds.Sync ≡ codes "sync")
         × (kind_text kinds.DelayResp ≡ codes "delay_resp") }

@@ -22,4 +22,3 @@ IfTold-append start old None xs ys first second = tt
 IfTold-append start None (Some zs) xs ys first second = absurd (cc second)
 IfTold-append start (Some ws) (Some zs) xs ys first second =
     rw (← append_told-append start xs ys, first) second
-

@@ -255,4 +255,3 @@ top_ahead ns number some lt le =
 pub top_behind : (ns : List ℕ) (number : ℕ) → ns ≢ [] → 65521 ≤ distance (maximum (positions ns)) number
     → maximum (positions (ns ++ number ∷ [])) ≡ maximum (positions ns)
 top_behind ns number some le = ap maximum (positions-push ns number) ∙ top_behind_of (positions ns) number (positions_are ns some) le
-

@@ -126,4 +126,3 @@ state_of-is w timeouts L t h =
     ap (λ v. state_of v t) (kept_is w timeouts L h)
     ∙ ap (λ b. record { loss_announce = loss_announce timeouts L t; loss_sync = loss_sync timeouts L t; loss_delay = loss_delay timeouts L t; unusable = is_unusable L; waiting = b; quality = quality L })
     (sym (is_waiting_by_latest timeouts L t))
-

@@ -12,4 +12,5 @@ pub type JoinFault = RunFault<LineCause>;
 
 // What a line of datagrams comes to in `show`, and in `join`.
 pub(crate) type ShowStepped = Stepped<Cause>;
+
 pub(crate) type JoinStepped = Stepped<LineCause>;

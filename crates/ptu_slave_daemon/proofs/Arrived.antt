@@ -202,4 +202,3 @@ round_later before after later old mid new xs m took same keeps = record {
   whole = λ still. subst (λ w. (length xs ≡ 64) ⊎ IsEmptyTold w) (sym same) (took.whole (still_before old mid new keeps still));
   once = took.once;
 }
-

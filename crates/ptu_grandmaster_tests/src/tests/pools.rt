@@ -44,15 +44,21 @@ fn refusal(alloc: Global, rows: [Row; 3]) -> Result<Option<PoolsFault>, Fail> {
 
 // A pool within the capacity of 17, a second one, and one of all addresses.
 const FIRST: Row = (0x0a00_0100, 24, 8);
+
 const SECOND: Row = (0x0a00_0200, 24, 8);
+
 const ALL: Row = (0, 0, 8);
 
 // One within the second, one whose address has bits behind its net, one of more bits than an
 // address has, and two of addresses of their own.
 const WITHIN: Row = (0x0a00_0201, 32, 1);
+
 const BEHIND: Row = (0x0a00_0301, 24, 1);
+
 const TOO_LONG: Row = (0, 33, 1);
+
 const OVER: Row = (0x0a00_0300, 24, 2);
+
 const LAST: Row = (0x0a00_0300, 24, 1);
 
 const OVERLAPS: [([Row; 3], usize, usize); 3] = [
@@ -72,7 +78,10 @@ const OTHERS: [([Row; 3], Option<PoolsFault>); 4] = [
 #[test]
 fn overlaps_are_refused(rt: HostRuntime) -> Result<(), Fail> {
     for (rows, first, second) in OVERLAPS {
-        assert_eq!(rt; refusal(rt.alloc(), rows)?, Some(PoolsFault::Overlap { first, second }));
+        assert_eq!(rt;
+            refusal(rt.alloc(), rows)?,
+            Some(PoolsFault::Overlap { first, second })
+        );
     }
     Ok(())
 }

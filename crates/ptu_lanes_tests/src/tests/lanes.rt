@@ -42,7 +42,11 @@ fn arrival(alloc: Global, head: &str, rest: &str) -> Result<Arrival, Fail>
 fn port(alloc: Global, fails: Vec<u64>) -> Result<MemPort, Fail> {
     let waiting = vec![in alloc;
         arrival(alloc, "0c12002c", "0000057fffffffffffffffffffff")?,
-        arrival(alloc, "0c120036", "0000057fffffffffffffffffffff00040006b0010000012c")?,
+        arrival(
+            alloc,
+            "0c120036",
+            "0000057fffffffffffffffffffff00040006b0010000012c"
+        )?,
     ]?;
     let mut port = MemPort::new(alloc, waiting, fails, Vec::new(alloc));
     port.reserve(2, 2 * 64)?;
@@ -228,7 +232,12 @@ fn check_one(rt: &impl Abort, port: &MemPort, ip: u32, channel: Channel, bytes: 
 // Table 1 sent its first Sync, table 2 the Delay_Resp, both at 1 s, and the others nothing.
 fn check_sent(rt: &impl Abort, alloc: Global, closed: &Closed<MemPort>) -> Result<(), Fail> {
     let sync = octets(alloc, "0012002c", "01", "0000007f00000000000100000000")?;
-    let resp = octets(alloc, "09120036", "01", "0007037f000000000001000000000a000000000000110001")?;
+    let resp = octets(
+        alloc,
+        "09120036",
+        "01",
+        "0007037f000000000001000000000a000000000000110001",
+    )?;
     assert!(rt; closed.p0.sent(0).is_none() && closed.p3.sent(0).is_none());
     check_one(rt, &closed.p1, ONE.ip, Channel::Event, &sync);
     check_one(rt, &closed.p2, TWO.ip, Channel::General, &resp);

@@ -1,8 +1,9 @@
 ghost use Rattle.std.specs.Prelude.{◌≡◌, ◌≤◌, None};
 ghost use Rattle.ptu_shared.specs.Opening.{sample_config};
 
-use super::shared::{ANNOUNCE, GRANTED, GRANTED_LATER, SYNC};
-use super::shared::{Scene, Site, ask, capacity, moment, run, turn};
+use super::shared::{
+    ANNOUNCE, GRANTED, GRANTED_LATER, SYNC, Scene, Site, ask, capacity, moment, run, turn,
+};
 use ptu_admit::InForce;
 use ptu_outside::{Channel, Failed, Port};
 use ptu_shard::samples::{ONE, SECOND, THREE, TWO, ZERO};
