@@ -184,8 +184,6 @@ passes_change n capacity a b c d h s = (
     pass : (j : ℕ) (xs : List Row) (moment : ℕ) → StandsAt n j xs moment h → StandsAt n j xs moment (h ++ Capacity n capacity ∷ [])
     pass j xs moment st = stands_elsewhere n j moment h xs st (Capacity n capacity) (λ d i own. refl) (omega arith)
 
-unfolding shed_order live_grants
-
 sheds_are : (n : ℕ) (gs : List Grant) → map (shed_at n) (map shed_of gs) ≡ map (shed_record n) gs
 sheds_are n [] = refl
 sheds_are n (g ∷ gs) = ap (λ rs. shed_record n g ∷ rs) (sheds_are n gs)

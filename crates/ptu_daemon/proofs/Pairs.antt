@@ -49,8 +49,6 @@ unpair_follow_up : (sync x : Departure) (rest : List Departure) (b : Bool) → i
 unfolding unpair_behind
 unpair_follow_up sync x rest b is = ap (λ (b : Bool). cond b (option_map (λ datagrams. sync ∷ datagrams) (unpair_behind None rest)) None) is
 
-unfolding unpair_behind
-
 pub unpair-pair : (waits : Option Departure) (sent : List Departure) (d : Departure) (step : Step) → step_at d ≡ step → is_half step ≡ false
     → unpair_behind waits (sent ++ pair_by step d) ≡ more (unpair_behind waits sent) d
 unfolding unpair_behind

@@ -18,8 +18,6 @@ pub table_moment-push : (history : List Record) (r : Record) (j : ℕ) → table
 unfolding table_moment
 table_moment-push history r j = greatest_by-push (table_part j) history r
 
-unfolding book_moment
-
 pub table_moment-append : (history more : List Record) (j : ℕ) → table_moment (history ++ more) j ≡ max (table_moment history j) (table_moment more j)
 unfolding table_moment
 table_moment-append history more j = greatest_by-append (table_part j) history more
