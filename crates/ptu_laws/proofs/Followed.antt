@@ -24,7 +24,6 @@ MayFollow before (Ended n c k) = last_sent before c k ≤ n
 MayFollow before (Shed n c k) = last_sent before c k ≤ n
 MayFollow before (Sent n c k) = lawful before n c k ≡ true
 MayFollow before _ = Unit {0}
-MayFollow before (Sent n c k) = lawful before n c k ≡ true
 
 pub own_sent : (before : List Record) (n : ℕ) (c d : Client) (k j : Kind) → same_lease c k d j ≡ true → last_sent before d j ≤ n → last_sent before c k ≤ n
 own_sent before n c d k j own le =
