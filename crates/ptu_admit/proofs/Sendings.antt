@@ -2,7 +2,6 @@
 use Rattle.std.proofs.Common.{◌≡◌, ◌∙◌, ℕ, ◌+◌, ◌≤◌, max, ◌++◌, List, [], ◌∷◌, map, append_assoc, append-nil, Bool, true, false, cond, eqb, refl, sym, ap, subst, arith}
 use Rattle.std.specs.{List.{All, list_any}, List.Sorted.{IsPermutation}}
 use Rattle.std.proofs.lemmas.{Bool.{false≢true}, List.Elements.{All-head, All-tail}}
-use Rattle.std.proofs.lemmas.List.Sums.{sum_by-cons}
 use Rattle.ptu_units.specs.declared.kind.{Kind.{Kind}, Kind.TheVariants.{DelayResp}}
 use Rattle.ptu_units.specs.{declared.client.Client.{Client}, Client.{table_of}}
 use Rattle.ptu_history.specs.History.{Record, Looked, Sent, is_change}
@@ -15,10 +14,11 @@ use Rattle.ptu_units.proofs.Keys.{same_lease-true}
 use Rattle.ptu_history.proofs.Moments.{answer_looked, book_moment-none, greatest-sent}
 use Rattle.ptu_history.proofs.Orders.{due_grants-table}
 use Rattle.ptu_shard.specs.{declared.lease.Row.{Row}, Row.{share_of}, Table.{StandsAt}}
-use Rattle.ptu_shard.specs.Turn.{spent_row, spent_where}
+use Rattle.ptu_shard.specs.Turn.{spent_where}
+use Rattle.ptu_shard.proofs.Spending.{share_of-spent}
 use Rattle.ptu_admit.specs.Book.{KeptBook}
 use Rattle.ptu_admit.specs.Lent.{EachStandsAt, Lent, StandFor, is_lent, rates_elsewhere, shares}
-use Rattle.ptu_admit.proofs.{Grants.{elsewhere-within}, Sums.{row_rate, share_of-permuted}}
+use Rattle.ptu_admit.proofs.{Grants.{elsewhere-within}, Sums.{share_of-permuted}}
 use Rattle.ptu_admit.proofs.Lending.{IsOfTable, each_passes, elsewhere_apart, last_passes}
 
 -- each of the records is of the table
@@ -62,20 +62,8 @@ module _ (opening j : ℕ) (rows spent : List Row) (moment after : ℕ) (rest : 
         whole = λ all. let h : book.total ≡ share_of rows + shares rest = s.whole all in omega (arith, h, share);
       }
 
-spent_share : (test : Row → Bool) (x : ℕ) (rows : List Row) → share_of (spent_where test x rows) ≡ share_of rows
-spent_share test x [] = refl
-spent_share test x (row ∷ rows) =
-    sum_by-cons row_rate (cond (test row) (spent_row x row) row) (spent_where test x rows)
-    ∙ ap (λ n. n + share_of (spent_where test x rows)) (at (test row))
-    ∙ ap (λ n. row_rate row + n) (spent_share test x rows)
-    ∙ sym (sum_by-cons row_rate row rows)
-  where
-    at : (b : Bool) → row_rate (cond b (spent_row x row) row) ≡ row_rate row
-    at true = refl
-    at false = refl
-
 pub spent_all : (test : Row → Bool) (x : ℕ) (rows spent : List Row) → IsPermutation (spent_where test x rows) spent → share_of spent ≡ share_of rows
-spent_all test x rows spent h = share_of-permuted (spent_where test x rows) spent h ∙ spent_share test x rows
+spent_all test x rows spent h = share_of-permuted (spent_where test x rows) spent h ∙ share_of-spent test x rows
 
 looked_of : (x j : ℕ) → IsOfTable j (Looked x j)
 looked_of x j = record {
