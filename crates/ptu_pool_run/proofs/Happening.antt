@@ -13,7 +13,8 @@ use Rattle.ptu_pool_run.specs.{Events.{PoolEvent, Came, Turned}, Pool.{AreApart,
 use Rattle.ptu_pool_run.specs.Refusal.{Share}
 use Rattle.ptu_pool_run.specs.PoolsStanding.{ChangesOne, KeptPools, StandFor}
 use Rattle.ptu_pool_run.proofs.Places.{found_in, none_in, one_place}
-use Rattle.ptu_pool_run.proofs.Standing.{get-set_other, get-set_same}
+use Rattle.ptu_units.proofs.Places.{slice_get-set_other}
+use Rattle.ptu_pool_run.proofs.Standing.{get-set_same}
 use Rattle.ptu_script.specs.declared.command.GrandmasterSetup.{GrandmasterSetup}
 use Rattle.ptu_world.specs.{Deeds.{Grandmaster}, Grandmasters.{datagram_deed, turn_deed}}
 use Rattle.ptu_nodes.specs.GrandmasterPorts.{HasReplyRoom, HasRoom, in_ports}
@@ -141,7 +142,7 @@ module _ (setup : GrandmasterSetup) (line : ℕ) (events : List PoolEvent) (kept
         by : (i ≡ place) ⊎ (i ≡ place → ⊥) → AreIdle gm
         by (inl same) = told.emptied gm (subst (λ j. slice_get kept3.gms j ≡ Some gm) same now)
         by (inr other) =
-            idle i gm (sym (get-set_other kept1.gms place i one.after other)
+            idle i gm (sym (slice_get-set_other kept1.gms place i one.after other)
             ∙ (sym (ap (λ (l : List (KeptGm MemoryPort)). slice_get l i) gms_are) ∙ (sym (told.others i other) ∙ now)))
 
     after_is : slice_get kept2.gms place ≡ Some one.after
@@ -156,7 +157,7 @@ module _ (setup : GrandmasterSetup) (line : ℕ) (events : List PoolEvent) (kept
             let is : one.after ≡ gm = cc in
             subst AreSure is one_sure
         by (inr other) =
-            sure i gm (sym (get-set_other kept1.gms place i one.after other) ∙ (sym (ap (λ (l : List (KeptGm MemoryPort)). slice_get l i) gms_are) ∙ now))
+            sure i gm (sym (slice_get-set_other kept1.gms place i one.after other) ∙ (sym (ap (λ (l : List (KeptGm MemoryPort)). slice_get l i) gms_are) ∙ now))
 
     -- the same in terms of the pools as they were
     written : texts' ≡ texts ++ map pool_line_text (lines_of_event setup kept1.pools events line event)

@@ -2,6 +2,7 @@
 use Rattle.std.proofs.Common.{◌≡◌, ◌≢◌, ◌⊎◌, ℕ, zero, suc, ◌+◌, ◌<◌, Bool, true, false, eqb, List, [], ◌∷◌, ◌++◌, length, map, set, slice_get, position, filter, Option, Some, None, refl, sym, ap, subst, ◌∙◌, inl, inr, arith}
 use Rattle.std.proofs.lemmas.{Bool.{cases_eq, eq-eqb, ne_eqb}, List.{append-nil, map-append}}
 use Rattle.std.proofs.lemmas.List.Elements.{filter-append}
+use Rattle.ptu_units.proofs.Places.{slice_get-set_other}
 use Rattle.ptu_history.specs.{Core.{history_after}, History.{Record}}
 use Rattle.ptu_profile.specs.declared.grandmaster.GmConfig.{GmConfig}
 use Rattle.ptu_gm_messages.specs.Deciding.{opened_with}
@@ -18,13 +19,6 @@ pub get-set_same : {X : Type 0} (xs : List X) (i : ℕ) (x y : X) → slice_get 
 get-set_same [] i x y e = absurd cc
 get-set_same (a ∷ xs) zero x y e = refl
 get-set_same (a ∷ xs) (suc i) x y e = get-set_same xs i x y e
-
-pub get-set_other : {X : Type 0} (xs : List X) (i j : ℕ) (y : X) → j ≢ i → slice_get (set xs i y) j ≡ slice_get xs j
-get-set_other [] i j y ne = refl
-get-set_other (a ∷ xs) zero zero y ne = absurd (ne refl)
-get-set_other (a ∷ xs) zero (suc j) y ne = refl
-get-set_other (a ∷ xs) (suc i) zero y ne = refl
-get-set_other (a ∷ xs) (suc i) (suc j) y ne = get-set_other xs i j y (λ e. ne (ap suc e))
 
 -- ---- one more event
 
@@ -71,7 +65,7 @@ stand-one {P = P} config kept events e place old new at mine same_config goes s 
 
     by : (i : ℕ) (gm : KeptGm P) → slice_get (set kept.gms place new) i ≡ Some gm → (i ≡ place) ⊎ (i ≡ place → ⊥) → Stands i gm
     by i gm n (inr other) =
-        let was = s.each i gm (sym (get-set_other kept.gms place i new other) ∙ n) in
+        let was = s.each i gm (sym (slice_get-set_other kept.gms place i new other) ∙ n) in
         (was.0, subst (StandsFor (capacity_at kept.pools i) gm) (sym (history-other config kept.pools i events e (mine i ∙ ne_eqb i place other))) was.1)
     by i gm n (inl same) =
         let there : slice_get (set kept.gms place new) place ≡ Some gm = subst (λ j. slice_get (set kept.gms place new) j ≡ Some gm) same n in
@@ -98,7 +92,7 @@ stand-still {P = P} config kept events place old new at same_config still s = re
     here = let was = s.each place old at in (same_config ∙ was.0, still (capacity_at kept.pools place) (pool_history config kept.pools place events) was.1)
 
     by : (i : ℕ) (gm : KeptGm P) → slice_get (set kept.gms place new) i ≡ Some gm → (i ≡ place) ⊎ (i ≡ place → ⊥) → Stands i gm
-    by i gm n (inr other) = s.each i gm (sym (get-set_other kept.gms place i new other) ∙ n)
+    by i gm n (inr other) = s.each i gm (sym (slice_get-set_other kept.gms place i new other) ∙ n)
     by i gm n (inl same) =
         let there : slice_get (set kept.gms place new) place ≡ Some gm = subst (λ j. slice_get (set kept.gms place new) j ≡ Some gm) same n in
         let is : new ≡ gm = (let e = sym (get-set_same kept.gms place old new at) ∙ there in cc) in
