@@ -4,7 +4,6 @@ use Rattle.std.specs.{Prelude.{IfErr, OnOk}, List.{AllByRecursion, items_where_t
 use Rattle.ptu_outside.specs.declared.{clock.Clock.{Ghosts as Clocks}, endpoint.Endpoint.{Endpoint}}
 use Rattle.ptu_outside.specs.declared.{opened.Opened.{Opened}, port.Port.{Ghosts as Ports}, sink.Sink.{Ghosts as Sinks}}
 use Rattle.ptu_outside.specs.{Departure.{Departure}, Handing.{HasPut, HasPutFront}, Telling.{IfTold, append_told}}
-use Rattle.ptu_outside.specs.HandsOver.{SentOf}
 use Rattle.ptu_config.specs.declared.settings.GmSettings.{GmSettings}
 use Rattle.ptu_outside.specs.{Faults.{HasRisen}, Handed.{SentPart, WasHanded}, Ports.{HaveNotRisen}}
 use Rattle.ptu_outside.specs.declared.fault.DaemonFault.{DaemonFault}
