@@ -8,13 +8,13 @@ use Rattle.ptu_outside.specs.Telling.{IfTold, IsFirstTold}
 use Rattle.ptu_history.specs.{Core.{history_after}, History.{Record}}
 use Rattle.ptu_history.proofs.Histories.{history_after-append}
 use Rattle.ptu_profile.specs.declared.grandmaster.GmConfig.{GmConfig}
-use Rattle.ptu_gm_messages.specs.{Deciding.{events_heard, opened_with}, Items.{heard_in}}
+use Rattle.ptu_gm_messages.specs.Deciding.{events_heard, opened_with}
 use Rattle.ptu_grandmaster.specs.declared.driving.GmEvent.TheVariants.{Take, Turn, Class, Capacity}
 use Rattle.ptu_grandmaster.specs.{declared.driving.GmEvent.{GmEvent}, Driven.{events_of}, Gm.{StandsFor, five_ports}}
 use Rattle.ptu_grandmaster.proofs.Followed.{heard_in-class}
 use Rattle.ptu_outside.specs.Rounds.{moments_after, next_of, timed}
 use Rattle.ptu_outside.specs.Taken.{Gave, HappenedAt}
-use Rattle.ptu_outside.proofs.Taken.{happened-append}
+use Rattle.ptu_outside.proofs.Taken.{Gave-append, happened-append}
 use Rattle.ptu_daemon.specs.{declared.daemon.Daemon.{Daemon}, Events.{Happening, Takes}}
 use Rattle.ptu_daemon.specs.Ran.{AllHandled, Does, Handled, Ran, standing_as}
 use Rattle.ptu_daemon.specs.Sends.{Standing, after_all, class_after, class_by, config_after, event_sends, sends_by, standing_after}
@@ -70,13 +70,6 @@ none_happened (event ∷ events) h = absurd h
 pub gives_none : (told : Option (List Arrival)) → Gave told told []
 gives_none None = tt
 gives_none (Some left) = refl
-
-pub gives_more : (old now new : Option (List Arrival)) (xs ys : List Arrival) → Gave old now xs → Gave now new ys → Gave old new (xs ++ ys)
-gives_more old now None xs ys h k = tt
-gives_more old None (Some left) xs ys h k = absurd (cc)
-gives_more old (Some middle) (Some left) xs ys h k =
-    let is : middle ≡ ys ++ left = cc in
-    h ∙ ap (λ l. Some (xs ++ l)) is ∙ ap Some (sym (append_assoc xs ys left))
 
 -- ---- events
 
@@ -201,8 +194,8 @@ module _ {P C : Type 0} (ports : Ports P) (clocks : Clocks C) where
         ∙ ap (λ n. record (old.gm.config) { class = n }) (sym (class_more old.gm.config.class h.events k.events));
     happened = happened-append xs ys h.events k.events h.happened k.happened;
     takes = takes_more (clocks.moments old.clock) (clocks.moments now.clock) (clocks.moments new.clock) xs ys h.events k.events h.takes k.takes;
-    general_given = gives_more (ports.waiting old.gm.reply) (ports.waiting now.gm.reply) (ports.waiting new.gm.reply) gs gs' h.general_given k.general_given;
-    event_given = gives_more (ports.waiting old.event) (ports.waiting now.event) (ports.waiting new.event) es es' h.event_given k.event_given;
+    general_given = Gave-append (ports.waiting old.gm.reply) (ports.waiting now.gm.reply) (ports.waiting new.gm.reply) gs gs' h.general_given k.general_given;
+    event_given = Gave-append (ports.waiting old.event) (ports.waiting now.event) (ports.waiting new.event) es es' h.event_given k.event_given;
     event_sent = k.event_sent ∙ h.event_sent;
     event_failed = h.event_failed + k.event_failed;
     event_handled = handled_more ports old.event now.event new.event [] [] 0 h.event_failed h.event_failed 0 k.event_failed k.event_failed h.event_handled k.event_handled;
