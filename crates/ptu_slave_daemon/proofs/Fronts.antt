@@ -10,7 +10,8 @@ use Rattle.ptu_slave_daemon.specs.declared.line.SlaveLine.TheVariants.{Closing}
 use Rattle.ptu_slave_daemon.specs.Happenings.{SlaveHappening, Selection, Stops, happenings_of_rounds, happenings, record_by_happenings, slave_round_of, selections_in, sent_by_happenings}
 use Rattle.ptu_slave_daemon.specs.Lines.{changes, output, output_from, selected_line}
 use Rattle.ptu_slave_daemon.specs.Running.{AreSlaveRounds, AreTimed, IsFront, RoundsDone, RunDone, View}
-use Rattle.ptu_slave_daemon.proofs.{OneRound.{in_rounds-add}, Ports.{all_counted, none_risen}}
+use Rattle.ptu_outside.proofs.HandsOver.{none_failed}
+use Rattle.ptu_slave_daemon.proofs.{OneRound.{in_rounds-add}, Ports.{all_counted}}
 use Rattle.ptu_slave_daemon.proofs.{Runs.{selections_in-append}, Times.{timed-append}}
 use Rattle.ptu_slave_daemon.proofs.Written.{changes-append, said_after}
 
@@ -62,8 +63,8 @@ module _ (once : Bool) (node : Node) (L : Record) (old new : View) (general gene
     where
       no_failures : failures ≡ 0
       no_failures =
-          let a : r.failed ≡ 0 = none_risen r.failed old.faults new.faults r.ran.port.fails.risen still in
-          let b : r.event_failed ≡ 0 = none_risen r.event_failed event_faults event_faults' r.event_fails.risen event_still in
+          let a : r.failed ≡ 0 = none_failed r.failed old.faults new.faults r.ran.port.fails.risen still in
+          let b : r.event_failed ≡ 0 = none_failed r.event_failed event_faults event_faults' r.event_fails.risen event_still in
           omega (arith, a, b, r.failures_are)
 
   -- the sink failed in the closing line
