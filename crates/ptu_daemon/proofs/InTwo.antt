@@ -1,22 +1,23 @@
 -- From what is said of ports in two steps to what the ports below them were sent.
-use Rattle.std.proofs.Common.{◌≡◌, ◌∙◌, ◌⊎◌, inl, inr, ℕ, ◌≤◌, ◌||◌, Bool, true, false, List, [], ◌∷◌, ◌++◌, length, Option, Some, None, is_some, IsSome, IfSome, option_map, Result, Ok, Err, refl, sym, ap, subst}
+use Rattle.std.proofs.Common.{◌≡◌, ◌∙◌, ◌⊎◌, inl, inr, ℕ, ◌||◌, Bool, false, List, [], ◌∷◌, ◌++◌, Option, Some, None, is_some, IfSome, option_map, Result, Ok, Err, refl, sym, ap, subst}
 use Rattle.std.specs.{Prelude.{IfErr, OnOk}, List.{AllByRecursion, items_where_true, list_any}}
 use Rattle.ptu_outside.specs.declared.{clock.Clock.{Ghosts as Clocks}, endpoint.Endpoint.{Endpoint}}
 use Rattle.ptu_outside.specs.declared.{opened.Opened.{Opened}, port.Port.{Ghosts as Ports}, sink.Sink.{Ghosts as Sinks}}
 use Rattle.ptu_outside.specs.{Departure.{Departure}, Handing.{HasPut, HasPutFront}, Telling.{IfTold, append_told}}
+use Rattle.ptu_outside.proofs.Telling.{some_told}
 use Rattle.ptu_config.specs.declared.settings.GmSettings.{GmSettings}
-use Rattle.ptu_outside.specs.{Faults.{HasRisen}, Handed.{SentPart, WasHanded}, Ports.{HaveNotRisen}}
+use Rattle.ptu_outside.specs.Handed.{WasHanded}
 use Rattle.ptu_outside.specs.declared.fault.DaemonFault.{DaemonFault}
 use Rattle.ptu_outside.specs.declared.fault.DaemonFault.TheVariants as faults
 use Rattle.ptu_shared.specs.{Histories.{SendsLawfully}, Opening.{seen_of}}
-use Rattle.ptu_lanes.specs.{Sending.{GoesOn, WasSent}, Orders.{lane_sends, opened_at}, Served.{ExchangedAll, ServesByLanes, faults_of}}
+use Rattle.ptu_lanes.specs.{Sending.{GoesOn, WasSent}, Orders.{opened_at}, Served.{ServesByLanes}}
 use Rattle.ptu_daemon.specs.{declared.two_host.Flags.{Flags}, Hosts.{clear, flagged_by, over, two_steps}}
 use Rattle.ptu_daemon.specs.declared.step.Step.TheVariants.{Other}
 use Rattle.ptu_daemon.specs.{Pairs.{pair, pair_by, pairs, step_at}, Telling.{InTwoSteps, ceases_in_two, is_half, told_by}}
 use Rattle.ptu_daemon.proofs.Pairs.{grown-pairs}
-use Rattle.ptu_daemon.specs.{Answers.{HasAnswered}, Commands.{IsSpoken, served_events}, Events.{Given, config_of}}
+use Rattle.ptu_daemon.specs.{Answers.{HasAnswered}, Commands.{served_events}, Events.{Given, config_of}}
 use Rattle.ptu_daemon.specs.Served.{Said, closing_line, numbers_in, opened_as, served_by}
-use Rattle.ptu_daemon.specs.Serving.{AreServed, HasServed, IsGiven, Serves, ServesEitherWay}
+use Rattle.ptu_daemon.specs.Serving.{AreServed, HasServed, Serves, ServesEitherWay}
 use Rattle.ptu_daemon.specs.ServingInTwo.{AnswersBelow, ArePairsBelow, AreSentBelow, AreSentInPairs, HasServedInTwo, IsSentInPairs, SendsBelow, ServesInPairs}
 use Rattle.ptu_daemon.proofs.Halves.{AreOther, AreWhole, all_some, other_rounds, other_whole, whole_messages, whole_sends}
 
@@ -48,10 +49,6 @@ pairs_same (d ∷ ds) other = ap (λ s. pair_by s d ++ pairs ds) other.0 ∙ ap 
 is_told : (now told : Option (List Departure)) → now ≡ told → IfTold now told
 is_told None told is = tt
 is_told (Some list) told is = sym is
-
-some_told : (told : Option (List Departure)) → IsSome told → (x : List Departure) × (told ≡ Some x)
-some_told None is = absurd (cc is)
-some_told (Some x) is = (x, refl)
 
 module _ {P C : Type 0} (ports : Ports P) (clocks : Clocks C) (settings : GmSettings) where
   -- a port below whose list was whole was sent the pairs
