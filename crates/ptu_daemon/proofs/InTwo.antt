@@ -4,7 +4,7 @@ use Rattle.std.specs.{Prelude.{IfErr, OnOk}, List.{AllByRecursion, items_where_t
 use Rattle.ptu_outside.specs.declared.{clock.Clock.{Ghosts as Clocks}, endpoint.Endpoint.{Endpoint}}
 use Rattle.ptu_outside.specs.declared.{opened.Opened.{Opened}, port.Port.{Ghosts as Ports}, sink.Sink.{Ghosts as Sinks}}
 use Rattle.ptu_outside.specs.{Departure.{Departure}, Handing.{HasPut, HasPutFront}, Telling.{IfTold, append_told}}
-use Rattle.ptu_outside.proofs.Telling.{some_told}
+use Rattle.ptu_outside.proofs.{HandsOver.{last_few}, Telling.{some_told}}
 use Rattle.ptu_config.specs.declared.settings.GmSettings.{GmSettings}
 use Rattle.ptu_outside.specs.Handed.{WasHanded}
 use Rattle.ptu_outside.specs.declared.fault.DaemonFault.{DaemonFault}
@@ -27,17 +27,13 @@ none_first : (ceases : Departure → Bool) (xs ys : List Departure) → AllByRec
 none_first ceases [] ys none = refl
 none_first ceases (x ∷ xs) ys none = ap (λ b. b || list_any ceases xs) none.0 ∙ none_first ceases xs ys none.1
 
-none_last : (ceases : Departure → Bool) (xs ys : List Departure) → AllByRecursion (λ d. ceases d ≡ false) (xs ++ ys) → AllByRecursion (λ d. ceases d ≡ false) ys
-none_last ceases [] ys none = none
-none_last ceases (x ∷ xs) ys none = none_last ceases xs ys none.1
-
 -- where none is a half, and the port below may cease at none of their pairs, the port in two steps may cease at none
 none_in_two : (ceases : Departure → Bool) (ds : List Departure) → AllByRecursion (λ d. is_half (step_at d) ≡ false) ds →
     AllByRecursion (λ d. ceases d ≡ false) (pairs ds) → AllByRecursion (λ d. ceases_in_two ceases d ≡ false) ds
 none_in_two ceases [] whole none = tt
 none_in_two ceases (d ∷ ds) whole none = (
   ap (λ b. b || list_any ceases (pair d)) whole.0 ∙ none_first ceases (pair d) (pairs ds) none,
-  none_in_two ceases ds whole.1 (none_last ceases (pair d) (pairs ds) none),
+  none_in_two ceases ds whole.1 (last_few ceases (pair d) (pairs ds) none),
 )
 
 -- ---- datagrams that are sent in two steps as they are

@@ -8,10 +8,9 @@ use Rattle.ptu_outside.specs.Telling.{IfTold, IsFirstTold}
 use Rattle.ptu_history.specs.{Core.{history_after}, History.{Record}}
 use Rattle.ptu_history.proofs.Histories.{history_after-append}
 use Rattle.ptu_profile.specs.declared.grandmaster.GmConfig.{GmConfig}
-use Rattle.ptu_gm_messages.specs.Deciding.{events_heard, opened_with}
-use Rattle.ptu_grandmaster.specs.declared.driving.GmEvent.TheVariants.{Take, Turn, Class, Capacity}
+use Rattle.ptu_gm_messages.specs.Deciding.{opened_with}
 use Rattle.ptu_grandmaster.specs.{declared.driving.GmEvent.{GmEvent}, Driven.{events_of}, Gm.{StandsFor, five_ports}}
-use Rattle.ptu_grandmaster.proofs.Followed.{heard_in-class}
+use Rattle.ptu_grandmaster.proofs.Followed.{events_of-class}
 use Rattle.ptu_outside.specs.Rounds.{moments_after, next_of, timed}
 use Rattle.ptu_outside.specs.Taken.{Gave, HappenedAt}
 use Rattle.ptu_outside.proofs.Taken.{Gave-append, happened-append}
@@ -87,16 +86,10 @@ pub class_more : (class : ℕ) (xs ys : List GmEvent) → class_after class (xs 
 class_more class [] ys = refl
 class_more class (x ∷ xs) ys = class_more (class_by class x) xs ys
 
-pub events_class : (config : GmConfig) (class : ℕ) (event : GmEvent) → events_of (record config { class = class }) event ≡ events_of config event
-events_class config class (Take t from octets) = ap (events_heard t from) (heard_in-class config class octets)
-events_class config class (Turn t table) = refl
-events_class config class (Class new) = refl
-events_class config class (Capacity t capacity) = refl
-
 all_class : (config : GmConfig) (class : ℕ) (events : List GmEvent) →
     flat_map (events_of (record config { class = class })) events ≡ flat_map (events_of config) events
 all_class config class [] = refl
-all_class config class (event ∷ later) = ap₂ (λ xs ys. xs ++ ys) (events_class config class event) (all_class config class later)
+all_class config class (event ∷ later) = ap₂ (λ xs ys. xs ++ ys) (events_of-class config class event) (all_class config class later)
 
 -- the history of the events
 pub after_all-history : (gm : Standing) (events : List GmEvent) →
