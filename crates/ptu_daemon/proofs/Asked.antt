@@ -14,7 +14,6 @@ use Rattle.ptu_gm_messages.specs.Deciding.{opened_with}
 use Rattle.ptu_grandmaster.specs.declared.driving.{GmEvent.{GmEvent}, GmEvent.TheVariants.{Capacity}}
 use Rattle.ptu_grandmaster.specs.Driven.{events_of}
 use Rattle.ptu_config.specs.{declared.settings.GmSettings.{GmSettings}, Commands.{commanded, is_known, request_line, order_asked}}
-use Rattle.ptu_config.specs.declared.{command.Cause.{Cause}, command.Command.{Command}}
 use Rattle.ptu_config.specs.declared.command.Command.TheVariants as commands
 use Rattle.ptu_daemon.specs.Asked.{AsksNothing, CommandNothing}
 use Rattle.ptu_lanes.specs.Orders.{order_in, order_with}

@@ -5,7 +5,7 @@ use Rattle.ptu_outside.specs.declared.{clock.Clock.{Ghosts as Clocks}, opened.Op
 use Rattle.ptu_outside.specs.{declared.port.Port.{Ghosts as Ports}, Departure.{Departure}}
 use Rattle.ptu_outside.specs.Faults.{HasRisenBy, HasRisenJust}
 use Rattle.ptu_outside.specs.Telling.{IfTold, append_told}
-use Rattle.ptu_outside.proofs.HandsOver.{none_failed}
+use Rattle.ptu_outside.proofs.{HandsOver.{none_failed}, Telling.{some_told}}
 use Rattle.ptu_history.specs.{Core.{book_step_moment, core_history}, Counts.{counts}}
 use Rattle.ptu_history.specs.{History.{Record}, Verdict.{table_rates}}
 use Rattle.ptu_profile.specs.Grandmaster.{IsWithinLimits}
@@ -28,10 +28,6 @@ use Rattle.ptu_daemon.specs.Serving.{AreServed, AreUnspoken, Happened, IsGiven, 
 use Rattle.ptu_daemon.proofs.{Commands.{many_done, rounds_are}, Handling.{five_each, handled_all, lengths_from, many_of}, Lawful.{is_lawful}, Running.{after_all-history}, Unspoken.{are_alone, nothing_given}}
 
 -- ---- what is told
-
-some_is : {A : Type 0} (told : Option A) → IsSome told → (x : A) × (told ≡ Some x)
-some_is None is = absurd (cc is)
-some_is (Some x) is = (x, refl)
 
 events_are : (old new : Option (List ℕ)) (moments : List ℕ) (happenings : List Happening) (events : List GmEvent) →
     Takes old new happenings events → old ≡ Some moments → IsSome new → events ≡ timed moments happenings
@@ -252,7 +248,7 @@ module _ {P C : Type 0} (ports : Ports P) (clocks : Clocks C) where
       event = subst (λ p. Gave (ports.waiting opened.p5) (ports.waiting p) (event_of (rounds_of did.done))) (sym q5) did.ran.event_given;
       spoken = did.given;
       heard = λ waiting waits still quiet.
-          let left = some_is (waits_at ports control') still in
+          let left = some_told (waits_at ports control') still in
           (did.heard waiting left.0 quiet waits left.1).1;
       all = whole.all;
       happened = did.happened;
@@ -283,9 +279,9 @@ module _ {P C : Type 0} (ports : Ports P) (clocks : Clocks C) where
       all_taken : (happens_from settings 0 did.done ≡ in_rounds (round_of settings given) rounds) × (rounds ≡ rounds_done settings given)
           × AreRoundsOf given 0 did.done
       all_taken =
-          let general = some_is (ports.waiting closed.p4) is.general_still in
-          let event_left = some_is (ports.waiting closed.p5) is.event_still in
-          let spoken_left = some_is (waits_at ports control') spoke.waits_still in
+          let general = some_told (ports.waiting closed.p4) is.general_still in
+          let event_left = some_told (ports.waiting closed.p5) is.event_still in
+          let spoken_left = some_told (waits_at ports control') spoke.waits_still in
           let taken = did.all given general.0 event_left.0 spoken_left.0 none spoke.still
           (ap ports.waiting p4 ∙ is.general, is.event) spoke.waits
           (ap ports.waiting (sym q4) ∙ general.1, ap ports.waiting (sym q5) ∙ event_left.1) spoken_left.1 in (

@@ -1,5 +1,6 @@
 -- The pair of a datagram that is handed to a port.
-use Rattle.std.proofs.Common.{◌≡◌, ◌≤◌, ◌||◌, ◌∷◌, [], Bool, true, false, List, Option, arith, is_err, refl, subst, Result, Ok, Err}
+use Rattle.std.proofs.Common.{◌≡◌, ◌||◌, ◌∷◌, [], Bool, true, false, List, Option, arith, is_err, refl, subst, Result, Ok, Err}
+use Rattle.std.proofs.lemmas.Bool.{or_parts}
 use Rattle.std.specs.{Result.{OnErr, OnOk, result_and}, List.{AllByRecursion, list_any}}
 use Rattle.ptu_outside.specs.{declared.port.Port.{Ghosts as Ports}, Departure.{Departure}}
 use Rattle.ptu_outside.specs.HandsOver.{HandsOver, failed_in, sent_in}
@@ -9,14 +10,10 @@ use Rattle.ptu_daemon.specs.declared.step.Step.{Step}
 use Rattle.ptu_daemon.specs.{Pairs.{pair, pair_by, step_at}, Telling.{HandsPair, ceases_in_two, is_half, told_by}}
 use Rattle.ptu_daemon.proofs.Pairs.{tells-send}
 
-neither : (a b : Bool) → (a || b) ≡ false → (a ≡ false) × (b ≡ false)
-neither true b none = absurd (cc none)
-neither false b none = (refl, none)
-
 -- where it is so of none of the list, it is not so of each
 pub none_of : (ceases : Departure → Bool) (ds : List Departure) → list_any ceases ds ≡ false → AllByRecursion (λ d. ceases d ≡ false) ds
 none_of ceases [] none = tt
-none_of ceases (d ∷ ds) none = let both = neither (ceases d) (list_any ceases ds) none in (both.0, none_of ceases ds both.1)
+none_of ceases (d ∷ ds) none = let both = or_parts (ceases d) (list_any ceases ds) none in (both.0, none_of ceases ds both.1)
 
 module _ {P A E : Type 0} (ports : Ports P) where
   -- both halves, one after the other
@@ -43,7 +40,7 @@ module _ {P A E : Type 0} (ports : Ports P) where
       → OnOk answer (ceases_in_two ports.ceases_at d ≡ false → TellsOn (told_by flag (ports.sent old)) (told_by (flag || (is_err answer || is_half step)) (ports.sent new)))
   tells_in_two flag old new d step (Err e) is h = tt
   tells_in_two flag old new d step (Ok x) is h = λ none.
-      let both = neither (is_half (step_at d)) (list_any ports.ceases_at (pair d)) none in
+      let both = or_parts (is_half (step_at d)) (list_any ports.ceases_at (pair d)) none in
       let pairs-none = subst (λ (s : Step). list_any ports.ceases_at (pair_by s d) ≡ false) is both.1 in
       tells-send {A = A} {E = E} flag (Ok x) (ports.sent old) (ports.sent new) d step is (pair_told old new (pair_by step d) (Ok x) h)
       (pair_tells old new (pair_by step d) (Ok x) h pairs-none) (subst (λ (s : Step). is_half s ≡ false) is both.0)

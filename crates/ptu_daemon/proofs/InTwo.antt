@@ -1,23 +1,23 @@
 -- From what is said of ports in two steps to what the ports below them were sent.
-use Rattle.std.proofs.Common.{◌≡◌, ◌∙◌, ◌⊎◌, inl, inr, ℕ, ◌≤◌, ◌||◌, Bool, true, false, List, [], ◌∷◌, ◌++◌, length, Option, Some, None, is_some, IsSome, IfSome, option_map, Result, Ok, Err, refl, sym, ap, subst}
+use Rattle.std.proofs.Common.{◌≡◌, ◌∙◌, ◌⊎◌, inl, inr, ℕ, ◌||◌, Bool, false, List, [], ◌∷◌, ◌++◌, Option, Some, None, is_some, IfSome, option_map, Result, Ok, Err, refl, sym, ap, subst}
 use Rattle.std.specs.{Prelude.{IfErr, OnOk}, List.{AllByRecursion, items_where_true, list_any}}
 use Rattle.ptu_outside.specs.declared.{clock.Clock.{Ghosts as Clocks}, endpoint.Endpoint.{Endpoint}}
 use Rattle.ptu_outside.specs.declared.{opened.Opened.{Opened}, port.Port.{Ghosts as Ports}, sink.Sink.{Ghosts as Sinks}}
 use Rattle.ptu_outside.specs.{Departure.{Departure}, Handing.{HasPut, HasPutFront}, Telling.{IfTold, append_told}}
-use Rattle.ptu_outside.specs.HandsOver.{SentOf}
+use Rattle.ptu_outside.proofs.{HandsOver.{last_few}, Telling.{some_told}}
 use Rattle.ptu_config.specs.declared.settings.GmSettings.{GmSettings}
-use Rattle.ptu_outside.specs.{Faults.{HasRisen}, Handed.{SentPart, WasHanded}, Ports.{HaveNotRisen}}
+use Rattle.ptu_outside.specs.Handed.{WasHanded}
 use Rattle.ptu_outside.specs.declared.fault.DaemonFault.{DaemonFault}
 use Rattle.ptu_outside.specs.declared.fault.DaemonFault.TheVariants as faults
 use Rattle.ptu_shared.specs.{Histories.{SendsLawfully}, Opening.{seen_of}}
-use Rattle.ptu_lanes.specs.{Sending.{GoesOn, WasSent}, Orders.{lane_sends, opened_at}, Served.{ExchangedAll, ServesByLanes, faults_of}}
+use Rattle.ptu_lanes.specs.{Sending.{GoesOn, WasSent}, Orders.{opened_at}, Served.{ServesByLanes}}
 use Rattle.ptu_daemon.specs.{declared.two_host.Flags.{Flags}, Hosts.{clear, flagged_by, over, two_steps}}
 use Rattle.ptu_daemon.specs.declared.step.Step.TheVariants.{Other}
 use Rattle.ptu_daemon.specs.{Pairs.{pair, pair_by, pairs, step_at}, Telling.{InTwoSteps, ceases_in_two, is_half, told_by}}
 use Rattle.ptu_daemon.proofs.Pairs.{grown-pairs}
-use Rattle.ptu_daemon.specs.{Answers.{HasAnswered}, Commands.{IsSpoken, served_events}, Events.{Given, config_of}}
+use Rattle.ptu_daemon.specs.{Answers.{HasAnswered}, Commands.{served_events}, Events.{Given, config_of}}
 use Rattle.ptu_daemon.specs.Served.{Said, closing_line, numbers_in, opened_as, served_by}
-use Rattle.ptu_daemon.specs.Serving.{AreServed, HasServed, IsGiven, Serves, ServesEitherWay}
+use Rattle.ptu_daemon.specs.Serving.{AreServed, HasServed, Serves, ServesEitherWay}
 use Rattle.ptu_daemon.specs.ServingInTwo.{AnswersBelow, ArePairsBelow, AreSentBelow, AreSentInPairs, HasServedInTwo, IsSentInPairs, SendsBelow, ServesInPairs}
 use Rattle.ptu_daemon.proofs.Halves.{AreOther, AreWhole, all_some, other_rounds, other_whole, whole_messages, whole_sends}
 
@@ -27,17 +27,13 @@ none_first : (ceases : Departure → Bool) (xs ys : List Departure) → AllByRec
 none_first ceases [] ys none = refl
 none_first ceases (x ∷ xs) ys none = ap (λ b. b || list_any ceases xs) none.0 ∙ none_first ceases xs ys none.1
 
-none_last : (ceases : Departure → Bool) (xs ys : List Departure) → AllByRecursion (λ d. ceases d ≡ false) (xs ++ ys) → AllByRecursion (λ d. ceases d ≡ false) ys
-none_last ceases [] ys none = none
-none_last ceases (x ∷ xs) ys none = none_last ceases xs ys none.1
-
 -- where none is a half, and the port below may cease at none of their pairs, the port in two steps may cease at none
 none_in_two : (ceases : Departure → Bool) (ds : List Departure) → AllByRecursion (λ d. is_half (step_at d) ≡ false) ds →
     AllByRecursion (λ d. ceases d ≡ false) (pairs ds) → AllByRecursion (λ d. ceases_in_two ceases d ≡ false) ds
 none_in_two ceases [] whole none = tt
 none_in_two ceases (d ∷ ds) whole none = (
   ap (λ b. b || list_any ceases (pair d)) whole.0 ∙ none_first ceases (pair d) (pairs ds) none,
-  none_in_two ceases ds whole.1 (none_last ceases (pair d) (pairs ds) none),
+  none_in_two ceases ds whole.1 (last_few ceases (pair d) (pairs ds) none),
 )
 
 -- ---- datagrams that are sent in two steps as they are
@@ -49,10 +45,6 @@ pairs_same (d ∷ ds) other = ap (λ s. pair_by s d ++ pairs ds) other.0 ∙ ap 
 is_told : (now told : Option (List Departure)) → now ≡ told → IfTold now told
 is_told None told is = tt
 is_told (Some list) told is = sym is
-
-some_told : (told : Option (List Departure)) → IsSome told → (x : List Departure) × (told ≡ Some x)
-some_told None is = absurd (cc is)
-some_told (Some x) is = (x, refl)
 
 module _ {P C : Type 0} (ports : Ports P) (clocks : Clocks C) (settings : GmSettings) where
   -- a port below whose list was whole was sent the pairs

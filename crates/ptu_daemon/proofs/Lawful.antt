@@ -3,8 +3,6 @@ use Rattle.std.proofs.Common.{◌≡◌, ◌∙◌, ℕ, ◌+◌, ◌++◌, List
 use Rattle.std.proofs.lemmas.List.{length-map, map-append}
 use Rattle.ptu_units.specs.{declared.client.Client.{Client}, Limits.{IsCapacity}}
 use Rattle.ptu_messages.specs.declared.header.Header.{Header}
-use Rattle.ptu_messages.specs.declared.tlv.Tlv.{Tlv}
-use Rattle.ptu_outside.specs.Departure.{Departure}
 use Rattle.ptu_history.specs.Core.{core_history, history_after}
 use Rattle.ptu_history.specs.{History.{Record}, Verdict.{Config}}
 use Rattle.ptu_laws.proofs.Promises.{core_keeps}
@@ -14,7 +12,6 @@ use Rattle.ptu_gm_messages.specs.declared.heard.Heard.TheVariants as heard
 use Rattle.ptu_gm_messages.specs.declared.item.Item.TheVariants as items
 use Rattle.ptu_gm_messages.specs.Deciding.{Decision, answer_by, answer_to, decision_of, decisions_of, events_of_items, item_records, opened_with, placed, reply_after}
 use Rattle.ptu_gm_messages.specs.Replies.{reply_to}
-use Rattle.ptu_gm_messages.proofs.Placing.{history_after-items}
 use Rattle.ptu_grandmaster.specs.declared.driving.GmEvent.{GmEvent}
 use Rattle.ptu_grandmaster.specs.declared.driving.GmEvent.TheVariants.{Take}
 use Rattle.ptu_grandmaster.specs.Driven.{events_of}

@@ -4,7 +4,6 @@ use Rattle.std.specs.Prelude.{◌==◌, if◌then◌else◌}
 use Rattle.std.specs.{List.{All, AllByRecursion, cons_option}, Option.{option_map_or}}
 use Rattle.std.proofs.lemmas.List.Elements.{filter_map-append}
 use Rattle.ptu_units.specs.{declared.kind.Kind.{Kind}, Kind.{kind_of}}
-use Rattle.ptu_messages.specs.declared.header.Header.{Header}
 use Rattle.ptu_messages.specs.Sent.{octets_sent}
 use Rattle.ptu_outside.specs.Departure.{Departure}
 use Rattle.ptu_units.specs.{declared.client.Client.{Client}, Client.{table_of}}

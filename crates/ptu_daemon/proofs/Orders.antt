@@ -22,7 +22,6 @@ use Rattle.ptu_daemon.specs.Obeying.{Executed, Follows, HandledAt, Obeys, situat
 use Rattle.ptu_daemon.specs.Ran.{Does, Handled, IsSmall, Ran, Receives, arrived, standing_as}
 use Rattle.ptu_daemon.specs.Sends.{Standing, sends_by}
 use Rattle.ptu_daemon.proofs.Handling.{five_each, five_handled, handled_more, handled_same, hands_handled}
-use Rattle.ptu_daemon.proofs.Receiving.{gives_kept, gives_one, left_none, receive_handled}
 use Rattle.ptu_daemon.proofs.Running.{ran_as, ran_none}
 
 module _ {P : Type 0} (ports : Ports P) where

@@ -3,8 +3,6 @@ use Rattle.std.proofs.Common.{◌≡◌, ℕ, ◌+◌, Bool, true, false, cond, 
 use Rattle.std.proofs.lemmas.{Bool.{eq-eqb, eqb-true, and_parts}, Slice.Eq.{bytes_eq-Decides}}
 use Rattle.std.proofs.lemmas.Grind.{flat_map-append}
 use Rattle.std.specs.{List.{AllByRecursion}, Str.{bytes_eq}}
-use Rattle.ptu_outside.specs.declared.channel.Channel.{Channel}
-use Rattle.ptu_outside.specs.declared.channel.Channel.TheVariants.{Event, General}
 use Rattle.ptu_outside.specs.{Departure.{Departure}, Telling.{IfTold, TellsOn, append_told}}
 use Rattle.ptu_daemon.specs.declared.step.Step.{Step}
 use Rattle.ptu_daemon.specs.declared.step.Step.TheVariants.{OneStepSync, TwoStepSync, FollowUp, Other}

@@ -1,35 +1,15 @@
 -- That a datagram was received, or none, and that the daemon waited.
-use Rattle.std.proofs.Common.{◌≡◌, ◌∙◌, ℕ, ◌+◌, List, [], ◌∷◌, take, drop, Option, Some, None, Result, Ok, Err, refl, sym, ap, subst, arith}
-use Rattle.std.specs.Option.{IfSome}
+use Rattle.std.proofs.Common.{◌≡◌, ℕ, ◌+◌, List, [], ◌∷◌, take, Option, Some, None, Result, Ok, Err, refl, sym, subst, arith}
 use Rattle.ptu_outside.specs.declared.arrival.Arrival.{Arrival}
 use Rattle.ptu_outside.specs.declared.channel.Channel.TheVariants as channels
 use Rattle.ptu_outside.specs.declared.{clock.Clock.{Ghosts as Clocks}, failed.Failed.{Failed}}
 use Rattle.ptu_outside.specs.declared.port.Port.{Ghosts as Ports}
-use Rattle.ptu_outside.specs.Telling.{IfTold, IsEmptyTold, IsFirstTold, rest_told}
-use Rattle.ptu_outside.proofs.HandsOver.{just_once}
+use Rattle.ptu_outside.proofs.{HandsOver.{just_once}, Taken.{Gave-none, Gave-one, IsEmptyTold-kept}}
 use Rattle.ptu_outside.specs.Taken.{Gave}
 use Rattle.ptu_daemon.specs.declared.daemon.Daemon.{Daemon}
 use Rattle.ptu_daemon.specs.Ran.{Handled, Ran, Received, Receives, arrived}
 use Rattle.ptu_daemon.proofs.Handling.{handled_idle, handled_quietly, handled_same}
 use Rattle.ptu_daemon.proofs.Running.{gives_none, ran_quietly}
-
-pub gives_one : (old new : Option (List Arrival)) (a : Arrival) → IsFirstTold old a → IfTold new (rest_told old) → Gave old new (a ∷ [])
-gives_one old None a first rest = tt
-gives_one None (Some left) a first rest = absurd (cc)
-gives_one (Some []) (Some left) a first rest = absurd (cc)
-gives_one (Some (x ∷ xs)) (Some left) a first rest =
-    let one : x ≡ a = cc in
-    let two : drop 1 (x ∷ xs) ≡ left = cc in
-    ap (λ y. Some (y ∷ xs)) one ∙ ap (λ l. Some (a ∷ l)) two
-
-pub gives_kept : (old new : Option (List Arrival)) → IfTold new old → Gave old new []
-gives_kept old None kept = tt
-gives_kept old (Some left) kept = kept
-
-pub left_none : (old new : Option (List Arrival)) → IsEmptyTold old → IfTold new old → IfSome new (λ left. left ≡ [])
-left_none old None empty kept = tt
-left_none None (Some left) empty kept = absurd (cc)
-left_none (Some xs) (Some left) empty kept = let same : xs ≡ left = cc in sym same ∙ empty
 
 -- how many receives failed, of one
 abbrev pub lost : Result (Option (ℕ × ℕ)) Failed → ℕ
@@ -74,14 +54,14 @@ module _ {P C : Type 0} (ports : Ports P) (clocks : Clocks C) where
   received_general old port' bytes (Ok (Some got)) r = (
     r.within,
     came_general old port' (arrived got.0 (take got.1 bytes) ∷ []) 0 (receive_handled ports old.gm.reply port' bytes (Ok (Some got)) r)
-        (gives_one (ports.waiting old.gm.reply) (ports.waiting port') _ r.first r.rest),
+        (Gave-one (ports.waiting old.gm.reply) (ports.waiting port') _ r.first r.rest),
   )
   received_general old port' bytes (Ok None) r = (
-    came_general old port' [] 0 (receive_handled ports old.gm.reply port' bytes (Ok None) r) (gives_kept (ports.waiting old.gm.reply) (ports.waiting port') r.left),
-    left_none (ports.waiting old.gm.reply) (ports.waiting port') r.nothing r.left,
+    came_general old port' [] 0 (receive_handled ports old.gm.reply port' bytes (Ok None) r) (Gave-none (ports.waiting old.gm.reply) (ports.waiting port') r.left),
+    IsEmptyTold-kept (ports.waiting old.gm.reply) (ports.waiting port') r.nothing r.left,
   )
   received_general old port' bytes (Err e) r =
-      came_general old port' [] 1 (receive_handled ports old.gm.reply port' bytes (Err e) r) (gives_kept (ports.waiting old.gm.reply) (ports.waiting port') r.kept)
+      came_general old port' [] 1 (receive_handled ports old.gm.reply port' bytes (Err e) r) (Gave-none (ports.waiting old.gm.reply) (ports.waiting port') r.kept)
 
   pub received_event : (old : Daemon P C) (port' : P) (bytes : List ℕ) (result : Result (Option (ℕ × ℕ)) Failed) →
       Receives ports old.event port' bytes result →
@@ -89,11 +69,11 @@ module _ {P C : Type 0} (ports : Ports P) (clocks : Clocks C) where
   received_event old port' bytes (Ok (Some got)) r = (
     r.within,
     came_event old port' (arrived got.0 (take got.1 bytes) ∷ []) 0 r.sent (receive_handled ports old.event port' bytes (Ok (Some got)) r)
-        (gives_one (ports.waiting old.event) (ports.waiting port') _ r.first r.rest),
+        (Gave-one (ports.waiting old.event) (ports.waiting port') _ r.first r.rest),
   )
   received_event old port' bytes (Ok None) r = (
-    came_event old port' [] 0 r.sent (receive_handled ports old.event port' bytes (Ok None) r) (gives_kept (ports.waiting old.event) (ports.waiting port') r.left),
-    left_none (ports.waiting old.event) (ports.waiting port') r.nothing r.left,
+    came_event old port' [] 0 r.sent (receive_handled ports old.event port' bytes (Ok None) r) (Gave-none (ports.waiting old.event) (ports.waiting port') r.left),
+    IsEmptyTold-kept (ports.waiting old.event) (ports.waiting port') r.nothing r.left,
   )
   received_event old port' bytes (Err e) r =
-      came_event old port' [] 1 r.sent (receive_handled ports old.event port' bytes (Err e) r) (gives_kept (ports.waiting old.event) (ports.waiting port') r.kept)
+      came_event old port' [] 1 r.sent (receive_handled ports old.event port' bytes (Err e) r) (Gave-none (ports.waiting old.event) (ports.waiting port') r.kept)

@@ -1,6 +1,6 @@
 -- That rounds were done.
-use Rattle.std.proofs.Common.{◌≡◌, ◌∙◌, ◌⊎◌, inl, inr, ℕ, suc, zero, ◌+◌, ◌*◌, ◌≤◌, List, [], ◌∷◌, ◌++◌, length, map, take, drop, slice_get, Option, Some, None, refl, sym, ap, ap₂, subst, arith, append_assoc, length-append, Bool, true, false}
-use Rattle.std.proofs.lemmas.List.{append-nil, drop-drop, drop_all, length-map, map-append}
+use Rattle.std.proofs.Common.{◌≡◌, ◌∙◌, ◌⊎◌, inl, inr, ℕ, suc, zero, ◌+◌, ◌*◌, ◌≤◌, List, [], ◌∷◌, ◌++◌, length, map, take, drop, slice_get, Option, Some, None, refl, sym, ap, ap₂, subst, arith, append_assoc, true, false}
+use Rattle.std.proofs.lemmas.List.{append-nil, drop-drop, drop_all, map-append}
 use Rattle.std.specs.{Option.{IfSome}, Prelude.{IfNone, unwrap_or}}
 use Rattle.ptu_outside.specs.{declared.arrival.Arrival.{Arrival}, Departure.{Departure}, Faults.{HasRisen}}
 use Rattle.ptu_outside.specs.declared.channel.Channel.TheVariants as channels
@@ -10,7 +10,7 @@ use Rattle.ptu_history.specs.History.{Record}
 use Rattle.ptu_grandmaster.specs.Gm.{StandsFor, five_ports}
 use Rattle.ptu_config.specs.{declared.settings.GmSettings.{GmSettings}, Rounds.{all_rounds}}
 use Rattle.ptu_outside.specs.{Rounds.{in_rounds, left_after, taken_in}, Taken.{Gave, HaveTaken, event_of, general_of}}
-use Rattle.ptu_outside.proofs.Taken.{event_of-push, general_of-push, have_taken-none, have_taken-push}
+use Rattle.ptu_outside.proofs.Taken.{Gave-append, event_of-push, general_of-push, have_taken-none, have_taken-push}
 use Rattle.ptu_outside.specs.declared.tally.Tally.{Tally}
 use Rattle.ptu_daemon.specs.declared.{daemon.Daemon.{Daemon}, obeying.Obeyed.{Obeyed}}
 use Rattle.ptu_lanes.specs.Orders.{listed, order_in}
@@ -21,7 +21,7 @@ use Rattle.ptu_daemon.specs.{Ran.{DidRound, IsSmall, Ran, TookChannel, standing_
 use Rattle.ptu_lanes.proofs.OrderedRounds.{NoneEnds, last_ends, none_ended, none_ends-push}
 use Rattle.ptu_daemon.proofs.Commands.{answers_from-push, are_counted-push, are_rounds-push, are_spoken-push, events_of-push, happens_from-push, have_happened-push, many_done, many_from-append, rounds_of-push, spoken_of-push, within-push}
 use Rattle.ptu_daemon.proofs.Handling.{all_within, five_each, handled_more, handled_same}
-use Rattle.ptu_daemon.proofs.Running.{after_all-append, after_is, gives_more, gives_none, none_happened, ran_as, ran_as_with, ran_more, ran_more_with, ran_none}
+use Rattle.ptu_daemon.proofs.Running.{after_all-append, after_is, gives_none, none_happened, ran_as, ran_as_with, ran_more, ran_more_with, ran_none}
 
 -- ---- a round takes the next of what waits
 
@@ -317,16 +317,16 @@ module _ {P C : Type 0} (ports : Ports P) (clocks : Clocks C) where
     gave_general =
         same_gave (ports.waiting now.gm.reply) (ports.waiting new.gm.reply) ((d.round.general ++ []) ++ []) d.round.general
         (append-nil (d.round.general ++ []) ∙ append-nil d.round.general)
-        (gives_more (ports.waiting now.gm.reply) (ports.waiting k.told.gm.reply) (ports.waiting new.gm.reply) (d.round.general ++ []) []
-        (gives_more (ports.waiting now.gm.reply) (ports.waiting k.turned.gm.reply) (ports.waiting k.told.gm.reply) d.round.general []
+        (Gave-append (ports.waiting now.gm.reply) (ports.waiting k.told.gm.reply) (ports.waiting new.gm.reply) (d.round.general ++ []) []
+        (Gave-append (ports.waiting now.gm.reply) (ports.waiting k.turned.gm.reply) (ports.waiting k.told.gm.reply) d.round.general []
         k.did.ran.general_given k.obeys.ran.general_given) k.waits.general_given)
 
     gave_event : Gave (ports.waiting now.event) (ports.waiting new.event) d.round.event
     gave_event =
         same_gave (ports.waiting now.event) (ports.waiting new.event) ((d.round.event ++ []) ++ []) d.round.event
         (append-nil (d.round.event ++ []) ∙ append-nil d.round.event)
-        (gives_more (ports.waiting now.event) (ports.waiting k.told.event) (ports.waiting new.event) (d.round.event ++ []) []
-        (gives_more (ports.waiting now.event) (ports.waiting k.turned.event) (ports.waiting k.told.event) d.round.event []
+        (Gave-append (ports.waiting now.event) (ports.waiting k.told.event) (ports.waiting new.event) (d.round.event ++ []) []
+        (Gave-append (ports.waiting now.event) (ports.waiting k.turned.event) (ports.waiting k.told.event) d.round.event []
         k.did.ran.event_given k.obeys.ran.event_given) k.waits.event_given)
 
     -- where no count of the control port rose, it had not risen before
@@ -402,7 +402,7 @@ module _ {P C : Type 0} (ports : Ports P) (clocks : Clocks C) where
         ran = whole.0;
         events = events;
         given = subst (λ l. Gave (waits_at ports port0) (waits_at ports port') l) (sym (spoken_of-push h.done d))
-            (gives_more (waits_at ports port0) (waits_at ports port) (waits_at ports port') (spoken_of h.done) (listed d.spoken) h.given k.obeys.given);
+            (Gave-append (waits_at ports port0) (waits_at ports port) (waits_at ports port') (spoken_of h.done) (listed d.spoken) h.given k.obeys.given);
         no_fall = not_fallen_both (faults_at ports port0) (faults_at ports port) (faults_at ports port') h.no_fall k.obeys.no_fall;
         within = within-push h.done d tally.sent tally.failed after.tally.sent after.tally.failed (omega (arith, k.sent)) (omega (arith, k.failed)) h.within
             (omega (arith, k.sent), omega (arith, k.failed));

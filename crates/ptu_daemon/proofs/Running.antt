@@ -8,13 +8,12 @@ use Rattle.ptu_outside.specs.Telling.{IfTold, IsFirstTold}
 use Rattle.ptu_history.specs.{Core.{history_after}, History.{Record}}
 use Rattle.ptu_history.proofs.Histories.{history_after-append}
 use Rattle.ptu_profile.specs.declared.grandmaster.GmConfig.{GmConfig}
-use Rattle.ptu_gm_messages.specs.{Deciding.{events_heard, opened_with}, Items.{heard_in}}
-use Rattle.ptu_grandmaster.specs.declared.driving.GmEvent.TheVariants.{Take, Turn, Class, Capacity}
+use Rattle.ptu_gm_messages.specs.Deciding.{opened_with}
 use Rattle.ptu_grandmaster.specs.{declared.driving.GmEvent.{GmEvent}, Driven.{events_of}, Gm.{StandsFor, five_ports}}
-use Rattle.ptu_grandmaster.proofs.Followed.{heard_in-class}
+use Rattle.ptu_grandmaster.proofs.Followed.{events_of-class}
 use Rattle.ptu_outside.specs.Rounds.{moments_after, next_of, timed}
 use Rattle.ptu_outside.specs.Taken.{Gave, HappenedAt}
-use Rattle.ptu_outside.proofs.Taken.{happened-append}
+use Rattle.ptu_outside.proofs.Taken.{Gave-append, happened-append}
 use Rattle.ptu_daemon.specs.{declared.daemon.Daemon.{Daemon}, Events.{Happening, Takes}}
 use Rattle.ptu_daemon.specs.Ran.{AllHandled, Does, Handled, Ran, standing_as}
 use Rattle.ptu_daemon.specs.Sends.{Standing, after_all, class_after, class_by, config_after, event_sends, sends_by, standing_after}
@@ -71,13 +70,6 @@ pub gives_none : (told : Option (List Arrival)) → Gave told told []
 gives_none None = tt
 gives_none (Some left) = refl
 
-pub gives_more : (old now new : Option (List Arrival)) (xs ys : List Arrival) → Gave old now xs → Gave now new ys → Gave old new (xs ++ ys)
-gives_more old now None xs ys h k = tt
-gives_more old None (Some left) xs ys h k = absurd (cc)
-gives_more old (Some middle) (Some left) xs ys h k =
-    let is : middle ≡ ys ++ left = cc in
-    h ∙ ap (λ l. Some (xs ++ l)) is ∙ ap Some (sym (append_assoc xs ys left))
-
 -- ---- events
 
 pub after_all-append : (gm : Standing) (xs ys : List GmEvent) → after_all gm (xs ++ ys) ≡ after_all (after_all gm xs) ys
@@ -94,16 +86,10 @@ pub class_more : (class : ℕ) (xs ys : List GmEvent) → class_after class (xs 
 class_more class [] ys = refl
 class_more class (x ∷ xs) ys = class_more (class_by class x) xs ys
 
-pub events_class : (config : GmConfig) (class : ℕ) (event : GmEvent) → events_of (record config { class = class }) event ≡ events_of config event
-events_class config class (Take t from octets) = ap (events_heard t from) (heard_in-class config class octets)
-events_class config class (Turn t table) = refl
-events_class config class (Class new) = refl
-events_class config class (Capacity t capacity) = refl
-
 all_class : (config : GmConfig) (class : ℕ) (events : List GmEvent) →
     flat_map (events_of (record config { class = class })) events ≡ flat_map (events_of config) events
 all_class config class [] = refl
-all_class config class (event ∷ later) = ap₂ (λ xs ys. xs ++ ys) (events_class config class event) (all_class config class later)
+all_class config class (event ∷ later) = ap₂ (λ xs ys. xs ++ ys) (events_of-class config class event) (all_class config class later)
 
 -- the history of the events
 pub after_all-history : (gm : Standing) (events : List GmEvent) →
@@ -201,8 +187,8 @@ module _ {P C : Type 0} (ports : Ports P) (clocks : Clocks C) where
         ∙ ap (λ n. record (old.gm.config) { class = n }) (sym (class_more old.gm.config.class h.events k.events));
     happened = happened-append xs ys h.events k.events h.happened k.happened;
     takes = takes_more (clocks.moments old.clock) (clocks.moments now.clock) (clocks.moments new.clock) xs ys h.events k.events h.takes k.takes;
-    general_given = gives_more (ports.waiting old.gm.reply) (ports.waiting now.gm.reply) (ports.waiting new.gm.reply) gs gs' h.general_given k.general_given;
-    event_given = gives_more (ports.waiting old.event) (ports.waiting now.event) (ports.waiting new.event) es es' h.event_given k.event_given;
+    general_given = Gave-append (ports.waiting old.gm.reply) (ports.waiting now.gm.reply) (ports.waiting new.gm.reply) gs gs' h.general_given k.general_given;
+    event_given = Gave-append (ports.waiting old.event) (ports.waiting now.event) (ports.waiting new.event) es es' h.event_given k.event_given;
     event_sent = k.event_sent ∙ h.event_sent;
     event_failed = h.event_failed + k.event_failed;
     event_handled = handled_more ports old.event now.event new.event [] [] 0 h.event_failed h.event_failed 0 k.event_failed k.event_failed h.event_handled k.event_handled;

@@ -1,6 +1,5 @@
 -- What a grandmaster is told while it is served, and what it answers (the project's own choice).
 use Rattle.std.specs.Prelude.{◌≡◌, ◌≤◌, ℕ, suc, zero, ◌+◌, ◌*◌, Bool, true, false, if◌then◌else◌, List, [], ◌∷◌, ◌++◌, length, map, flat_map, Option, Some, None, Result, Ok, Err, IsSome, slice_get}
-use Rattle.std.specs.List.{AllByRecursion}
 use Rattle.ptu_outside.specs.{declared.arrival.Arrival.{Arrival}, declared.port.Port.{Ghosts as Ports}, Departure.{Departure}, Faults.{HasRisen}}
 use Rattle.ptu_units.specs.Counts.{counted}
 use Rattle.ptu_units.specs.declared.kind.Kind.TheVariants.{Announce, Sync, DelayResp}

@@ -2,7 +2,6 @@
 use Rattle.std.specs.Prelude.{ℕ, ◌+◌, ◌-◌, ◌*◌, ◌==◌, ◌&&◌, Bool, true, false, if◌then◌else◌, List, [], ◌∷◌, Option, Some, None, option_map, slice_index, slice_set}
 use Rattle.std.specs.{List.{flat_map}, Str.{bytes_eq}}
 use Rattle.ptu_units.specs.Number.{high_nibble_at}
-use Rattle.ptu_outside.specs.declared.channel.Channel.{Channel}
 use Rattle.ptu_outside.specs.declared.channel.Channel.TheVariants.{Event, General}
 use Rattle.ptu_outside.specs.Departure.{Departure}
 use Rattle.ptu_daemon.specs.declared.step.Step.{Step}

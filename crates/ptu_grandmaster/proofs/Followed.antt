@@ -174,7 +174,7 @@ pub heard_in-class : (config : GmConfig) (class : ℕ) (octets : List ℕ) → h
 unfolding heard_in
 heard_in-class config class octets = refl
 
-events_of-class : (config : GmConfig) (class : ℕ) (e : GmEvent) → events_of (record config { class = class }) e ≡ events_of config e
+pub events_of-class : (config : GmConfig) (class : ℕ) (e : GmEvent) → events_of (record config { class = class }) e ≡ events_of config e
 events_of-class config class (Take t from bytes) = ap (events_heard t from) (heard_in-class config class bytes)
 events_of-class config class (Turn t table) = refl
 events_of-class config class (Class c) = refl

@@ -11,7 +11,7 @@ use Rattle.ptu_outside.specs.Faults.{HasRisen, HasRisenBy, HasRisenJust, HasNotF
 use Rattle.ptu_outside.specs.HandsOver.{HandsOver, SentOf}
 use Rattle.ptu_outside.proofs.HandsOver.{goes_on_both, hands_none, just_both, none_failed, not_fallen_both, not_fallen_none, rises_first, rises_second, risen_both, sent_both, sent_none, told_both, told_none}
 use Rattle.ptu_outside.specs.Telling.{IfTold, IsFirstTold, append_told, rest_told}
-use Rattle.ptu_outside.proofs.Telling.{IfTold-refl}
+use Rattle.ptu_outside.proofs.{Taken.{Gave-append, Gave-none, Gave-one}, Telling.{IfTold-refl}}
 use Rattle.ptu_messages.specs.declared.header.Header.{Header}
 use Rattle.ptu_messages.specs.declared.tlv.Tlv.{Tlv}
 use Rattle.ptu_profile.specs.declared.grandmaster.GmConfig.{GmConfig}
@@ -24,10 +24,10 @@ use Rattle.ptu_grandmaster.specs.{declared.outcome.Outcome.{Outcome}, Outcomes.{
 use Rattle.ptu_outside.specs.Rounds.{most}
 use Rattle.ptu_lanes.specs.Answers.{FitEach, HasAnswered, WasDecided, asks_among, grants_among}
 use Rattle.ptu_lanes.specs.Rounds.{AreDecided, BrokeOff, Exchange, Exchanged, HasReplied, HasServed, IsAnswered, IsRound, IsUnanswered, answers_of, asks_in, datagrams, found_items, items_of, replies, reply_if_any, reply_in, reply_with}
-use Rattle.ptu_lanes.proofs.{Items.{answered_none, asks-le, heard_items, items_heard}}
+use Rattle.ptu_lanes.proofs.Items.{answered_none, asks-le, heard_items, items_heard}
 use Rattle.ptu_lanes.specs.Waiting.{PassedBy}
 use Rattle.ptu_lanes.proofs.Moments.{passed-append, passed_as, passed_one}
-use Rattle.ptu_lanes.proofs.Taking.{first_given, front_is, given_more, kept_is}
+use Rattle.ptu_lanes.proofs.Taking.{front_is}
 use Rattle.ptu_lanes.specs.Sending.{GoesOn, WasSent}
 
 -- ---- nothing was taken
@@ -39,7 +39,7 @@ pub served_none : {P : Type 0} (ports : Ports P) (greatest : ℕ) (config : GmCo
     (failed ≡ 0 → ports.faults port' ≡ ports.faults port) → HasNotFallen (ports.faults port) (ports.faults port') →
     HasServed ports greatest config [] port port' counts counts 0 0 failed failed
 served_none ports greatest config port port' failed counts kept unsent risen just quiet no_fall = record {
-  given = kept_is (ports.waiting port) (ports.waiting port') kept;
+  given = Gave-none (ports.waiting port) (ports.waiting port') kept;
   answered = All-nil (IsAnswered greatest config);
   granted = omega arith;
   refused = omega arith;
@@ -69,7 +69,7 @@ pub exchanges_more : (xs ys : List Exchange) (waiting middle left : Option (List
     IfSome middle (λ later. waiting ≡ Some (datagrams xs ++ later)) → IfSome left (λ later. middle ≡ Some (datagrams ys ++ later)) →
     IfSome left (λ later. waiting ≡ Some (datagrams (xs ++ ys) ++ later))
 exchanges_more xs ys waiting middle left first second =
-    rw (map-append (λ (e : Exchange). e.datagram) xs ys) (given_more (datagrams xs) (datagrams ys) waiting middle left first second)
+    rw (map-append (λ (e : Exchange). e.datagram) xs ys) (Gave-append waiting middle left (datagrams xs) (datagrams ys) first second)
 
 pub served-append : {P : Type 0} (ports : Ports P) (greatest : ℕ) (config : GmConfig) (xs ys : List Exchange) (p0 p1 p2 : P) (old seat new : SeatCounts) (asks sent failed missed asks2 sent2 failed2 missed2 : ℕ) →
     HasServed ports greatest config xs p0 p1 old seat asks sent failed missed → HasServed ports greatest config ys p1 p2 seat new asks2 sent2 failed2 missed2 →
@@ -135,7 +135,7 @@ pub served_received : {P : Type 0} (ports : Ports P) (greatest : ℕ) (config : 
 served_received ports greatest config e port now port' old new asks sent failed first rest unsent faults r =
     let many : asks ≡ asks_among (items_of config e.datagram) = let a = r.asks_are in let b = r.answered.counted in omega arith in
     record {
-      given = first_given e.datagram (ports.waiting port) (ports.waiting port') first (subst (λ l. IfTold l (rest_told (ports.waiting port))) (sym r.hands.waiting) rest);
+      given = Gave-one (ports.waiting port) (ports.waiting port') e.datagram first (subst (λ l. IfTold l (rest_told (ports.waiting port))) (sym r.hands.waiting) rest);
       answered = All-cons (IsAnswered greatest config) e [] r.is (All-nil (IsAnswered greatest config));
       granted = let a = r.answered.granted in omega arith;
       refused = r.answered.refused;
@@ -289,7 +289,7 @@ broke_off ports clocks greatest config exchanges n p0 p1 p2 c0 c1 c2 old seat ne
   exchanges = exchanges;
   last = u.datagram;
   few = omega (arith, many, few);
-  given = given_more (datagrams exchanges) (u.datagram ∷ []) (ports.waiting p0) (ports.waiting p1) (ports.waiting p2) p.given u.given;
+  given = Gave-append (ports.waiting p0) (ports.waiting p1) (ports.waiting p2) (datagrams exchanges) (u.datagram ∷ []) p.given u.given;
   answered = p.answered;
   told = λ same. subst (λ (now : Option (List Departure)). IfTold now (append_told (ports.sent p0) (replies config exchanges))) (sym u.unsent)
       (p.told (subst (λ n. ¬ HasRisen (ports.faults p0) n) u.still same));
@@ -309,7 +309,7 @@ pub unanswered : {P C : Type 0} (ports : Ports P) (clocks : Clocks C) (d : Arriv
 unanswered ports clocks d port now port' clock clock' old new same first rest unsent still no_less moved =
     subst (λ p. IsUnanswered ports clocks port p clock clock' old new) (sym same) (record {
       datagram = d;
-      given = first_given d (ports.waiting port) (ports.waiting now) first rest;
+      given = Gave-one (ports.waiting port) (ports.waiting now) d first rest;
       unsent = unsent;
       still = still;
       granted = no_less.0;

@@ -6,6 +6,7 @@ use Rattle.ptu_outside.specs.{declared.arrival.Arrival.{Arrival}, declared.port.
 use Rattle.ptu_outside.specs.{Faults.{HasNotFallen, HasRisen, one_more}, HandsOver.{SentOf}}
 use Rattle.ptu_outside.specs.Telling.{IfTold, IsEmptyTold, IsFirstTold, TellsOn, append_told, rest_told}
 use Rattle.ptu_outside.proofs.HandsOver.{just_once, not_fallen_both, not_fallen_none, sent_none, told_none}
+use Rattle.ptu_outside.proofs.Taken.{Gave-append, Gave-none, Gave-one, IsEmptyTold-kept}
 use Rattle.ptu_shared.specs.Opening.{HaveFailed}
 use Rattle.ptu_shared.proofs.Failing.{failed_none}
 use Rattle.ptu_config.specs.declared.{settings.GmSettings.{GmSettings}, answer.Reply.{Reply}, answer.Status.{Status}, command.Cause.{Cause}, command.Command.{Command}}
@@ -15,7 +16,7 @@ use Rattle.ptu_lanes.specs.declared.orders.Order.{Order}
 use Rattle.ptu_lanes.specs.declared.orders.Order.TheVariants as orders
 use Rattle.ptu_lanes.specs.Heard.{IsReply, Leaves, MayStand, Spoke, SpokenTo, TookSpoken, WasAnswered, answer_sent, reply_to}
 use Rattle.ptu_lanes.specs.Orders.{left_of, listed, order_in}
-use Rattle.ptu_lanes.proofs.{Handing.{handed-append, handed_none, handed_of}, Taking.{first_given, given_more, kept_is}}
+use Rattle.ptu_lanes.proofs.Handing.{handed-append, handed_none, handed_of}
 
 given_same : (told : Option (List Arrival)) → IfSome told (λ later. told ≡ Some ([] ++ later))
 given_same None = tt
@@ -63,7 +64,7 @@ module _ {P : Type 0} (ports : Ports P) where
       SpokenTo ports (ss ++ ts) (ds ++ es) a c
   spoken-append ss ts ds es None None None p q = ap₂ (λ x y. x ++ y) p q
   spoken-append ss ts ds es (Some a) (Some b) (Some c) p q = record {
-    given = given_more ss ts (ports.waiting a) (ports.waiting b) (ports.waiting c) p.given q.given;
+    given = Gave-append (ports.waiting a) (ports.waiting b) (ports.waiting c) ss ts p.given q.given;
     sent = p.sent + q.sent;
     handed = handed-append ports a b c ds es p.sent q.sent p.no_fall q.no_fall p.handed q.handed;
     no_fall = not_fallen_both (ports.faults a) (ports.faults b) (ports.faults c) p.no_fall q.no_fall;
@@ -107,15 +108,10 @@ replied_by round class in_force shed (Some (Ok (commands.Stop cancels))) order r
 -- ---- what is received of a control port
 
 module _ {P : Type 0} (ports : Ports P) where
-  left_none : (waiting left : Option (List Arrival)) → IsEmptyTold waiting → IfTold left waiting → IfSome left (λ l. l ≡ [])
-  left_none waiting None empty told = tt
-  left_none None (Some left) empty told = absurd (cc told)
-  left_none (Some waited) (Some left) empty told = let same : waited ≡ left = cc told in sym same ∙ empty
-
   pub took_one : (old new : P) (d : Arrival) → IsFirstTold (ports.waiting old) d → IfTold (ports.waiting new) (rest_told (ports.waiting old)) →
       ports.sent new ≡ ports.sent old → ports.faults new ≡ ports.faults old → TookSpoken ports old new (Some d)
   took_one old new d first rest unsent quiet = record {
-    given = first_given d (ports.waiting old) (ports.waiting new) first rest;
+    given = Gave-one (ports.waiting old) (ports.waiting new) d first rest;
     drained = λ still. tt;
     unsent = unsent;
     failed = 0;
@@ -125,8 +121,8 @@ module _ {P : Type 0} (ports : Ports P) where
   pub took_none : (old new : P) → IsEmptyTold (ports.waiting old) → IfTold (ports.waiting new) (ports.waiting old) →
       ports.sent new ≡ ports.sent old → ports.faults new ≡ ports.faults old → TookSpoken ports old new None
   took_none old new empty left unsent quiet = record {
-    given = kept_is (ports.waiting old) (ports.waiting new) left;
-    drained = λ still. left_none (ports.waiting old) (ports.waiting new) empty left;
+    given = Gave-none (ports.waiting old) (ports.waiting new) left;
+    drained = λ still. IsEmptyTold-kept (ports.waiting old) (ports.waiting new) empty left;
     unsent = unsent;
     failed = 0;
     failures = subst (λ n. HaveFailed ports.counts_once 0 (ports.faults old) n) (sym quiet) (failed_none ports.counts_once (ports.faults old));
@@ -135,7 +131,7 @@ module _ {P : Type 0} (ports : Ports P) where
   pub took_failed : (old new : P) → IfTold (ports.waiting new) (ports.waiting old) → ports.sent new ≡ ports.sent old → HasRisen (ports.faults old) (ports.faults new) →
       (ports.counts_once ≡ true → ports.faults new ≡ one_more (ports.faults old)) → HasNotFallen (ports.faults old) (ports.faults new) → TookSpoken ports old new None
   took_failed old new kept unsent risen once no_fall = record {
-    given = kept_is (ports.waiting old) (ports.waiting new) kept;
+    given = Gave-none (ports.waiting old) (ports.waiting new) kept;
     drained = λ still. absurd (still risen);
     unsent = unsent;
     failed = 1;

@@ -1,42 +1,17 @@
 -- What was taken of what waits at a port, call by call.
-use Rattle.std.proofs.Common.{◌≡◌, ◌∙◌, ◌⊎◌, inl, inr, ℕ, ◌+◌, ◌≤◌, ◌++◌, List, [], ◌∷◌, length, length-append, take, drop, refl, sym, ap, subst, append_assoc, arith, Option, Some, None}
+use Rattle.std.proofs.Common.{◌≡◌, ◌∙◌, ◌⊎◌, inl, inr, ℕ, ◌+◌, ◌≤◌, ◌++◌, List, [], ◌∷◌, length, length-append, take, drop, refl, sym, ap, subst, arith, Option, Some, None}
 use Rattle.std.specs.Prelude.{IfSome, option_map}
 use Rattle.std.proofs.{lemmas.List.{append-nil, take_all}, Math.ListN.{drop_of_length-le}}
 use Rattle.std.proofs.Math.Seq.{drop-append_seam, take-append_seam}
 use Rattle.ptu_outside.specs.declared.{arrival.Arrival.{Arrival}, clock.Clock.{Ghosts as Clocks}}
 use Rattle.ptu_outside.specs.{declared.port.Port.{Ghosts as Ports}, Clocks.{after_first}}
 use Rattle.ptu_outside.specs.Telling.{IfTold, IsFirstTold, rest_told}
-use Rattle.ptu_outside.proofs.Telling.{IfTold-refl}
+use Rattle.ptu_outside.proofs.{Taken.{Gave-append, Gave-none, Gave-one}, Telling.{IfTold-refl}}
 use Rattle.ptu_shared.specs.Opening.{HaveFailed}
 use Rattle.ptu_shared.proofs.Failing.{failed-append, failed_none}
 use Rattle.ptu_outside.specs.Rounds.{most}
 use Rattle.ptu_lanes.specs.Waiting.{GaveFirst, HasTaken, Took}
 use Rattle.ptu_lanes.proofs.Moments.{passed-append, passed_as, passed_none, passed_one}
-
--- ---- what a port gave
-
-pub kept_is : (waiting left : Option (List Arrival)) → IfTold left waiting → IfSome left (λ later. waiting ≡ Some ([] ++ later))
-kept_is waiting None kept = tt
-kept_is waiting (Some later) kept = kept
-
-pub first_given : (d : Arrival) (waiting left : Option (List Arrival)) → IsFirstTold waiting d → IfTold left (rest_told waiting) →
-    IfSome left (λ later. waiting ≡ Some (d ∷ [] ++ later))
-first_given d waiting None first rest = tt
-first_given d None (Some later) first rest = absurd (cc rest)
-first_given d (Some []) (Some later) first rest = absurd (cc first)
-first_given d (Some (x ∷ xs)) (Some later) first rest =
-    let same : x ≡ d = cc first in
-    let others : xs ≡ later = cc rest in
-    ap Some (ap (λ y. y ∷ xs) same ∙ ap (λ l. d ∷ l) others)
-
-pub given_more : (xs ys : List Arrival) (waiting middle left : Option (List Arrival)) →
-    IfSome middle (λ later. waiting ≡ Some (xs ++ later)) → IfSome left (λ later. middle ≡ Some (ys ++ later)) →
-    IfSome left (λ later. waiting ≡ Some ((xs ++ ys) ++ later))
-given_more xs ys waiting middle None first second = tt
-given_more xs ys waiting None (Some later) first second = absurd (cc second)
-given_more xs ys waiting (Some more) (Some later) first second =
-    let is : more ≡ ys ++ later = cc second in
-    first ∙ ap (λ l. Some (xs ++ l)) is ∙ ap Some (sym (append_assoc xs ys later))
 
 -- ---- a whole round
 
@@ -53,7 +28,7 @@ module _ {P C : Type 0} (ports : Ports P) (clocks : Clocks C) where
   none_taken port clock = record {
     taken = [];
     many = refl;
-    given = kept_is (ports.waiting port) (ports.waiting port) (IfTold-refl (ports.waiting port));
+    given = Gave-none (ports.waiting port) (ports.waiting port) (IfTold-refl (ports.waiting port));
     unsent = refl;
     failures = failed_none ports.counts_once (ports.faults port);
     moments = passed_none (clocks.moments clock);
@@ -64,7 +39,7 @@ module _ {P C : Type 0} (ports : Ports P) (clocks : Clocks C) where
   taken_more count more missed worse p0 p1 p2 c0 c1 c2 p q = record {
     taken = p.taken ++ q.taken;
     many = length-append p.taken q.taken ∙ omega (arith, p.many, q.many);
-    given = given_more p.taken q.taken (ports.waiting p0) (ports.waiting p1) (ports.waiting p2) p.given q.given;
+    given = Gave-append (ports.waiting p0) (ports.waiting p1) (ports.waiting p2) p.taken q.taken p.given q.given;
     unsent = q.unsent ∙ p.unsent;
     failures = failed-append ports.counts_once missed worse (ports.faults p0) (ports.faults p1) (ports.faults p2) p.failures q.failures;
     moments = passed-append count more (clocks.moments c0) (clocks.moments c1) (clocks.moments c2) p.moments q.moments;
@@ -77,7 +52,7 @@ module _ {P C : Type 0} (ports : Ports P) (clocks : Clocks C) where
   taken_one d port port' clock clock' first rest unsent still moved = record {
     taken = d ∷ [];
     many = refl;
-    given = first_given d (ports.waiting port) (ports.waiting port') first rest;
+    given = Gave-one (ports.waiting port) (ports.waiting port') d first rest;
     unsent = unsent;
     failures = subst (λ n. HaveFailed ports.counts_once 0 (ports.faults port) n) (sym still) (failed_none ports.counts_once (ports.faults port));
     moments = passed_one (clocks.moments clock) (clocks.moments clock') moved;
@@ -90,7 +65,7 @@ module _ {P C : Type 0} (ports : Ports P) (clocks : Clocks C) where
   taken_nothing missed port port' clock kept unsent failures = record {
     taken = [];
     many = refl;
-    given = kept_is (ports.waiting port) (ports.waiting port') kept;
+    given = Gave-none (ports.waiting port) (ports.waiting port') kept;
     unsent = unsent;
     failures = failures;
     moments = passed_none (clocks.moments clock);
@@ -110,7 +85,7 @@ module _ {P C : Type 0} (ports : Ports P) (clocks : Clocks C) where
   took-append all n m more p0 p1 p2 c0 c1 c2 is p q = record {
     datagrams = p.datagrams ++ q.datagrams;
     few = omega (arith, is, p.few, q.few, length-append p.datagrams q.datagrams);
-    given = given_more p.datagrams q.datagrams (ports.waiting p0) (ports.waiting p1) (ports.waiting p2) p.given q.given;
+    given = Gave-append (ports.waiting p0) (ports.waiting p1) (ports.waiting p2) p.datagrams q.datagrams p.given q.given;
     moments = passed_as ((length p.datagrams + 0) + (length q.datagrams + more)) (length (p.datagrams ++ q.datagrams) + more) _ _
         (omega (arith, length-append p.datagrams q.datagrams))
         (passed-append (length p.datagrams + 0) (length q.datagrams + more) (clocks.moments c0) (clocks.moments c1) (clocks.moments c2) p.moments q.moments);

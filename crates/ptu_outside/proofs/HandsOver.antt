@@ -70,7 +70,7 @@ first_few : (ceases : Departure → Bool) (xs ys : List Departure) → AllByRecu
 first_few ceases [] ys few = tt
 first_few ceases (x ∷ xs) ys few = (few.0, first_few ceases xs ys few.1)
 
-last_few : (ceases : Departure → Bool) (xs ys : List Departure) → AllByRecursion (λ d. ceases d ≡ false) (xs ++ ys) → AllByRecursion (λ d. ceases d ≡ false) ys
+pub last_few : (ceases : Departure → Bool) (xs ys : List Departure) → AllByRecursion (λ d. ceases d ≡ false) (xs ++ ys) → AllByRecursion (λ d. ceases d ≡ false) ys
 last_few ceases [] ys few = few
 last_few ceases (x ∷ xs) ys few = last_few ceases xs ys few.1
 

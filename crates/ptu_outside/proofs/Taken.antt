@@ -1,8 +1,9 @@
 -- One round more.
-use Rattle.std.proofs.Common.{◌≡◌, ◌∙◌, ℕ, ◌+◌, List, [], ◌∷◌, ◌++◌, length, refl, sym, ap, arith, append_assoc, length-append}
+use Rattle.std.proofs.Common.{◌≡◌, ◌∙◌, ℕ, ◌+◌, List, [], ◌∷◌, ◌++◌, length, Option, Some, None, refl, sym, ap, ap₂, arith, append_assoc, length-append}
 use Rattle.std.proofs.lemmas.List.{append-nil}
 use Rattle.std.specs.List.{AllByRecursion}
-use Rattle.ptu_outside.specs.Taken.{HappenedAt, HaveTaken, IsWithin, Round, event_of, general_of, in_these}
+use Rattle.ptu_outside.specs.{declared.arrival.Arrival.{Arrival}, Telling.{IfTold, IsEmptyTold, IsFirstTold, rest_told}}
+use Rattle.ptu_outside.specs.Taken.{Gave, HappenedAt, HaveTaken, IsWithin, Round, event_of, general_of, in_these}
 
 within-push : (rounds : List Round) (r : Round) → AllByRecursion IsWithin rounds → IsWithin r → AllByRecursion IsWithin (rounds ++ r ∷ [])
 within-push [] r all one = (one, tt)
@@ -50,3 +51,31 @@ happened-append [] ys [] es h k = k
 happened-append [] ys (d ∷ ds) es h k = absurd h
 happened-append (x ∷ xs) ys [] es h k = absurd h
 happened-append (x ∷ xs) ys (d ∷ ds) es (one, rest) k = (one, happened-append xs ys ds es rest k)
+
+-- ---- what a port gave
+
+pub Gave-none : (old new : Option (List Arrival)) → IfTold new old → Gave old new []
+Gave-none old None kept = tt
+Gave-none old (Some left) kept = kept
+
+-- the first that waited was taken
+pub Gave-one : (old new : Option (List Arrival)) (arrival : Arrival) → IsFirstTold old arrival → IfTold new (rest_told old) → Gave old new (arrival ∷ [])
+Gave-one old None arrival first rest = tt
+Gave-one None (Some left) arrival first rest = absurd (cc rest)
+Gave-one (Some []) (Some left) arrival first rest = absurd (cc first)
+Gave-one (Some (x ∷ xs)) (Some left) arrival first rest =
+    let is : x ≡ arrival = cc first in
+    let others : xs ≡ left = cc rest in
+    ap₂ (λ y ys. Some (y ∷ ys)) is others
+
+pub Gave-append : (old now new : Option (List Arrival)) (xs ys : List Arrival) → Gave old now xs → Gave now new ys → Gave old new (xs ++ ys)
+Gave-append old now None xs ys p q = tt
+Gave-append old None (Some left) xs ys p q = absurd (cc q)
+Gave-append old (Some middle) (Some left) xs ys p q =
+    let same : middle ≡ ys ++ left = cc q in
+    p ∙ ap (λ l. Some (xs ++ l)) same ∙ ap Some (sym (append_assoc xs ys left))
+
+pub IsEmptyTold-kept : (old new : Option (List Arrival)) → IsEmptyTold old → IfTold new old → IsEmptyTold new
+IsEmptyTold-kept old None empty kept = tt
+IsEmptyTold-kept None (Some left) empty kept = absurd (cc kept)
+IsEmptyTold-kept (Some list) (Some left) empty kept = let is : list ≡ left = cc kept in sym is ∙ empty

@@ -1,6 +1,7 @@
 -- Content that is told or not, after several calls.
 use Rattle.std.proofs.Common.{◌≡◌, List, [], ◌++◌, Option, Some, None, refl, ap, append_assoc}
 use Rattle.std.proofs.lemmas.List.{append-nil}
+use Rattle.std.specs.Prelude.{IsSome}
 use Rattle.ptu_outside.specs.Telling.{IfTold, append_told}
 
 pub IfTold-refl : {A : Type 0} (told : Option A) → IfTold told told
@@ -22,3 +23,8 @@ IfTold-append start old None xs ys first second = tt
 IfTold-append start None (Some zs) xs ys first second = absurd (cc second)
 IfTold-append start (Some ws) (Some zs) xs ys first second =
     rw (← append_told-append start xs ys, first) second
+
+-- what is told, where something is
+pub some_told : {A : Type 0} (told : Option A) → IsSome told → (x : A) × (told ≡ Some x)
+some_told None is = absurd (cc is)
+some_told (Some x) is = (x, refl)

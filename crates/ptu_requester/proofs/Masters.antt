@@ -1,8 +1,8 @@
 -- What is kept of each master, with one entry of the slave's record more.
-use Rattle.std.proofs.Common.{◌≡◌, ◌≢◌, ℕ, zero, suc, ◌<◌, Bool, true, false, cond, List, [], ◌∷◌, ◌++◌, Some, length, refl, ap, sym, subst, ◌∙◌, arith, eqb, set, get_or}
+use Rattle.std.proofs.Common.{◌≡◌, ◌≢◌, ℕ, ◌<◌, Bool, true, false, cond, List, [], ◌∷◌, ◌++◌, Some, length, refl, ap, sym, subst, ◌∙◌, arith, eqb, set, get_or}
 use Rattle.std.proofs.lemmas.{Bool.{eqb-true, eq-eqb}, Option.{slice_get_read, same_Some}}
 use Rattle.std.specs.List.{slice_get}
-use Rattle.ptu_units.specs.declared.kind.Kind.{Kind}
+use Rattle.ptu_units.{proofs.Places.{slice_get-set_other, slice_get-set_same}, specs.declared.kind.Kind.{Kind}}
 use Rattle.ptu_record.specs.Record.{Record, record_of, concerns}
 use Rattle.ptu_record.proofs.Others.{record_of-push}
 use Rattle.ptu_requester.specs.declared.negotiation.Change.{Change}
@@ -16,19 +16,6 @@ concerns-entry_of n Ask at m k = refl
 concerns-entry_of n (Grant seconds) at m k = refl
 concerns-entry_of n Denial at m k = refl
 concerns-entry_of n Cancel at m k = refl
-
--- a write at one place
-pub slice_get-set_same : {A : Type 0} (xs : List A) (i : ℕ) (x : A) → i < length xs → slice_get (set xs i x) i ≡ Some x
-slice_get-set_same [] i x within = absurd (omega arith)
-slice_get-set_same (y ∷ ys) zero x within = refl
-slice_get-set_same (y ∷ ys) (suc i) x within = slice_get-set_same ys i x (omega arith)
-
-pub slice_get-set_other : {A : Type 0} (xs : List A) (i j : ℕ) (x : A) → j ≢ i → slice_get (set xs i x) j ≡ slice_get xs j
-slice_get-set_other [] i j x differ = refl
-slice_get-set_other (y ∷ ys) zero zero x differ = absurd (differ refl)
-slice_get-set_other (y ∷ ys) zero (suc j) x differ = refl
-slice_get-set_other (y ∷ ys) (suc i) zero x differ = refl
-slice_get-set_other (y ∷ ys) (suc i) (suc j) x differ = slice_get-set_other ys i j x (λ e. differ (ap suc e))
 
 -- what is read at a master's place
 pub kept_read : (r : Kept) (L : Record) (m : ℕ) (ns : Negotiations) → StandsFor r L → m < length r.masters → ns ≡ get_or r.masters m ns → AreKept (record_of m L) ns

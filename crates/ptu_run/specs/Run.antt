@@ -6,7 +6,6 @@ use Rattle.ptu_report.specs.declared.ending.{Ending.{Ending}, Ending.TheVariants
 use Rattle.ptu_report.specs.declared.fault.RunFault.{RunFault}
 use Rattle.ptu_report.specs.declared.fault.RunFault.TheVariants.{Line, Read, Write, OutOfMemory}
 use Rattle.ptu_report.specs.Reported.{HasReportedAllRead}
-use Rattle.ptu_script.specs.declared.cause.Cause.{Cause}
 use Rattle.ptu_report_lines.specs.declared.report_line.ReportLine.{ReportLine}
 use Rattle.ptu_report_lines.specs.declared.report_line.ReportLine.TheVariants.{End}
 use Rattle.ptu_world.specs.{World.{Stock}, Report.{course_opening, report, report_lines, rules}}

@@ -1,23 +1,14 @@
 -- A selector with one entry more.
 use Rattle.std.proofs.Common.{◌≡◌, ◌≢◌, ℕ, ◌<◌, Bool, true, false, cond, List, [], ◌∷◌, ◌++◌, map, length, Option, Some, None, refl, ap, sym, subst, ◌∙◌, eqb, inl, inr, get_or, set}
 use Rattle.std.proofs.{Math.Seq.{map-set_same}, lemmas.Bool.{cases_eq, eq-eqb, ne_eqb}}
-use Rattle.std.proofs.lemmas.List.{length-set, get_or-set_same, get_or-set_other}
 use Rattle.std.proofs.lemmas.Option.{get_or_from_slice_get, slice_get-get_or, slice_get-map, slice_get_within}
 use Rattle.std.specs.{List.{AllByRecursion, slice_get}, Option.{option_map}}
+use Rattle.ptu_units.proofs.Places.{slice_get-set_other, slice_get-set_same}
 use Rattle.ptu_record.specs.{Record.{Entry, Record, concerns, record_of}, SignalFails.{Timeouts}}
 use Rattle.ptu_record.proofs.{Others.{record_of-push}, StepParts.{record_of-append}}
 use Rattle.ptu_select.specs.Watched.{StandsFor, Watched, is_watched}
 use Rattle.ptu_select.proofs.Watching.{unwatched}
 use Rattle.ptu_select.specs.{declared.master.WatchedMaster.{WatchedMaster}, Selecting.{SelectsBy}}
-
-get-set_same : (xs : List WatchedMaster) (m : ℕ) (y : WatchedMaster) → m < length xs → slice_get (set xs m y) m ≡ Some y
-get-set_same xs m y lt =
-    slice_get-get_or (set xs m y) m y (subst (λ n. m < n) (sym (length-set xs m y)) lt) ∙ ap Some (get_or-set_same xs m y y lt)
-
-get-set_other : (xs : List WatchedMaster) (m n : ℕ) (y w : WatchedMaster) → n ≢ m → slice_get (set xs m y) n ≡ Some w → slice_get xs n ≡ Some w
-get-set_other xs m n y w differ found =
-    slice_get-get_or xs n w (subst (λ k. n < k) (length-set xs m y) (slice_get_within (set xs m y) n w found))
-    ∙ ap Some (sym (get_or-set_other xs m n y w differ) ∙ get_or_from_slice_get (set xs m y) n w w found)
 
 some_is : (x y : WatchedMaster) → Some x ≡ Some y → x ≡ y
 some_is x y e = cc
@@ -38,7 +29,7 @@ one_entered masters timeouts priorities L e m old new found of_m entered h = rec
     own : (n : ℕ) (w : WatchedMaster) → n ≡ m → slice_get (set masters m (record { watch = new; priority = old.priority })) n ≡ Some w → StandsFor w.watch timeouts (record_of n (L ++ e ∷ []))
     own n w same there =
         let at_m : slice_get (set masters m (record { watch = new; priority = old.priority })) m ≡ Some w = subst (λ k. slice_get (set masters m (record { watch = new; priority = old.priority })) k ≡ Some w) same there in
-        let is : record { watch = new; priority = old.priority } ≡ w = some_is _ _ (sym (get-set_same masters m (record { watch = new; priority = old.priority }) (slice_get_within masters m old found)) ∙ at_m) in
+        let is : record { watch = new; priority = old.priority } ≡ w = some_is _ _ (sym (slice_get-set_same masters m (record { watch = new; priority = old.priority }) (slice_get_within masters m old found)) ∙ at_m) in
         subst (λ k. StandsFor w.watch timeouts (record_of k (L ++ e ∷ []))) (sym same)
         (subst (λ v. StandsFor v timeouts (record_of m (L ++ e ∷ []))) (ap (λ master. master.watch) is)
         (subst (StandsFor new timeouts) (sym (record_of-push m L e ∙ ap (λ b. cond b (record_of m L ++ e ∷ []) (record_of m L)) (of_m m ∙ eq-eqb m m refl)))
@@ -47,7 +38,7 @@ one_entered masters timeouts priorities L e m old new found of_m entered h = rec
     other : (n : ℕ) (w : WatchedMaster) → n ≢ m → slice_get (set masters m (record { watch = new; priority = old.priority })) n ≡ Some w → StandsFor w.watch timeouts (record_of n (L ++ e ∷ []))
     other n w differ there =
         subst (StandsFor w.watch timeouts) (sym (record_of-push n L e ∙ ap (λ b. cond b (record_of n L ++ e ∷ []) (record_of n L)) (of_m n ∙ ne_eqb m n (λ same. differ (sym same)))))
-        (h.watches_are n w (get-set_other masters m n (record { watch = new; priority = old.priority }) w differ there))
+        (h.watches_are n w (sym (slice_get-set_other masters m n (record { watch = new; priority = old.priority }) differ) ∙ there))
 
 -- entries that no watch goes by
 pub unwatched_by : (masters : List WatchedMaster) (timeouts : Timeouts) (priorities : List ℕ) (L M : Record)

@@ -1,8 +1,8 @@
 -- The history of one table, from one step under its lock to the next.
-use Rattle.std.proofs.Common.{◌≡◌, ◌∙◌, ℕ, suc, ◌+◌, ◌-◌, ◌^◌, ◌≤◌, max, min, ◌++◌, List, [], ◌∷◌, length, length-append, get_or, map, Bool, true, false, cond, eqb, ◌&&◌, refl, sym, ap, subst, arith, append-nil, append_assoc, Option, Some, None}
+use Rattle.std.proofs.Common.{◌≡◌, ◌∙◌, ℕ, suc, ◌+◌, ◌-◌, ◌^◌, ◌≤◌, max, min, ◌++◌, List, [], ◌∷◌, length, length-append, get_or, map, Bool, true, false, eqb, ◌&&◌, refl, sym, ap, subst, arith, append-nil, append_assoc, Option, Some, None}
 use Rattle.std.specs.List.{All, AllByRecursion, filter}
 use Rattle.std.specs.Prelude.{is_some}
-use Rattle.std.proofs.lemmas.Bool.{and_parts, eq-eqb, eqb-true, false≢true}
+use Rattle.std.proofs.lemmas.Bool.{and_parts, eqb-true, false≢true}
 use Rattle.std.proofs.lemmas.List.Elements.{All-head, All-tail, All-weaker, filter_passes}
 use Rattle.std.proofs.lemmas.List.Sorted.{All-permutation}
 use Rattle.ptu_units.specs.declared.kind.{Kind.{Kind}, Kind.TheVariants.{Announce, Sync, DelayResp}}
@@ -10,19 +10,19 @@ use Rattle.ptu_messages.specs.declared.header.Header.{Header}
 use Rattle.ptu_outside.specs.{declared.port.Port.{Ghosts as Ports}, Departure.{Departure}}
 use Rattle.ptu_outside.specs.{Faults.{HasNotFallen, HasRisen}, HandsOver.{HandsOver}, Telling.{TellsOn}}
 use Rattle.ptu_outside.proofs.HandsOver.{goes_on_both, hands_none, none_failed, rises_first, rises_second, sent_both, sent_none, told_both, told_none}
-use Rattle.ptu_units.specs.{declared.client.Client.{Client}, Client.{same_lease, table_of}}
+use Rattle.ptu_units.specs.{declared.client.Client.{Client}, Client.{table_of}}
 use Rattle.ptu_history.specs.History.{Record, Granted, Short, Ended, Capacity, Shed, Looked, Sent}
 use Rattle.ptu_history.specs.Live.{Grant, IsDistinctByLease, live_grants}
-use Rattle.ptu_history.specs.{Lawful.{lawful}, Moments.{book_moment, book_part, greatest_by, table_moment, table_part}, Order.{in_order}}
+use Rattle.ptu_history.specs.{Lawful.{lawful}, Moments.{book_moment, book_part, greatest_by, table_moment}, Order.{in_order}}
 use Rattle.ptu_history.specs.{Runs.{sequence_number}, Events.{Answer, Answered, NoGrant, TooSoon, DelayReq, Turn}}
 use Rattle.ptu_history.specs.Turns.{due_grants, is_due, is_turned, message_of, sent_record, turn_cmp}
 use Rattle.ptu_history.specs.{Step.{answer_records, delay_answer, step}, Verdict.{Config}}
-use Rattle.ptu_units.proofs.Keys.{same_lease-sym, same_lease-true}
+use Rattle.ptu_units.proofs.Keys.{same_lease-sym}
 use Rattle.ptu_history.proofs.{Lists.{greatest_by-push}, Order.{IsPermutation-in_order}, Orders.{due_grants-distinct}}
 use Rattle.ptu_history.proofs.Moments.{book_moment-none, greatest-sent}
 use Rattle.ptu_history.proofs.Strangers.{lawful-push, sequence_number-push}
 use Rattle.ptu_laws.specs.Sound.{last_sent, sent_part}
-use Rattle.ptu_laws.proofs.{Followed.{AllMayFollow as AllFollow, may-answer}, Stands.{greatest-le, last_sent-table}}
+use Rattle.ptu_laws.proofs.{Followed.{AllMayFollow as AllFollow, may-answer}, Stands.{last_sent-table}}
 use Rattle.ptu_profile.specs.declared.grandmaster.GmConfig.{GmConfig}
 use Rattle.ptu_shard.specs.{Answered.{responses}, Messages.{departure_of, response_of}, Table.{Kept, StandsBeside, StandsFor}, Turn.{due_messages}}
 use Rattle.ptu_admit.specs.Alone.{AreDecisionsFrom, GoesOnAlone, StandsAlone}
@@ -87,18 +87,6 @@ module _ (told : Bool) (config : GmConfig) where
       (first, rest ++ es, ap (λ l. l ++ es) is, message, messages-append (before ++ Sent n c k ∷ []) xs ys rest es later (shift before xs ys (Sent n c k) es b))
 
 -- ---- decisions
-
--- a client's messages are records of its table
-sent_part-le : (c : Client) (k : Kind) (r : Record) → sent_part c k r ≤ table_part (table_of c) r
-sent_part-le c k (Sent x d j) = at (same_lease c k d j) refl
-  where
-    at : (b : Bool) → same_lease c k d j ≡ b → cond b x 0 ≤ cond (eqb (table_of d) (table_of c)) x 0
-    at true own =
-        let same : eqb (table_of d) (table_of c) ≡ true = eq-eqb (table_of d) (table_of c) (ap table_of (sym (same_lease-true c k d j own).0)) in
-        let e : ◌≡◌ {A = ℕ} (cond (eqb (table_of d) (table_of c)) x 0) x = ap (λ b. cond b x 0) same in
-        omega arith
-    at false own = omega arith
-sent_part-le c k _ = omega arith
 
 -- no message of the table's clients among the records is after this moment
 abbrev AreSentBy : ℕ → ℕ → List Record → Type 0

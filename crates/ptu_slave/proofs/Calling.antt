@@ -3,7 +3,7 @@ use Rattle.std.proofs.Common.{◌≡◌, ◌≢◌, ℕ, zero, suc, ◌+◌, ◌
 use Rattle.std.proofs.lemmas.{Bool.{eqb-true, eq-eqb}, List.{get_or-set_same, length-set}}
 use Rattle.std.proofs.lemmas.Option.{slice_get-get_or}
 use Rattle.std.specs.List.{slice_get}
-use Rattle.ptu_requester.proofs.Masters.{slice_get-set_other, slice_get-set_same}
+use Rattle.ptu_units.proofs.Places.{slice_get-set_other, slice_get-set_same}
 use Rattle.ptu_judges.specs.Calls.{OfAll, OfAnswer, OfOne}
 
 -- it begins at a judge that is known under another name

@@ -5,7 +5,7 @@ use Rattle.std.proofs.lemmas.List.{append-nil}
 use Rattle.std.specs.List.{AllByRecursion, slice_get}
 use Rattle.ptu_record.specs.Record.{Entry, Record, record_of, concerns}
 use Rattle.ptu_record.proofs.Others.{record_of-push, record_of-others}
-use Rattle.ptu_requester.proofs.Masters.{slice_get-set_other, slice_get-set_same}
+use Rattle.ptu_units.proofs.Places.{slice_get-set_other, slice_get-set_same}
 use Rattle.ptu_slave.specs.Standing.{Each}
 
 -- ---- entries of one master

@@ -1,11 +1,11 @@
 -- Datagrams that are taken one after the other.
-use Rattle.std.proofs.Common.{◌≡◌, ◌∙◌, ◌⊎◌, inl, inr, ℕ, ◌+◌, ◌<◌, ◌≤◌, ◌++◌, Bool, true, false, cond, List, [], ◌∷◌, length, map, refl, sym, ap, ap₂, subst, arith, length-append, append_assoc, Option, Some, None}
+use Rattle.std.proofs.Common.{◌≡◌, ◌∙◌, ◌⊎◌, inl, inr, ℕ, ◌+◌, ◌<◌, ◌≤◌, ◌++◌, Bool, true, false, cond, List, [], ◌∷◌, length, map, refl, sym, ap, ap₂, subst, arith, length-append, Option}
 use Rattle.std.proofs.lemmas.List.{map-append}
 use Rattle.ptu_outside.specs.{declared.arrival.Arrival.{Arrival}, Faults.{HasNotFallen, HasRisen}}
 use Rattle.ptu_outside.specs.Telling.{IfTold, IsEmptyTold, IsFirstTold, rest_told}
 use Rattle.ptu_outside.specs.declared.{clock.Clock.{Ghosts as Clocks}, port.Port.{Ghosts as Ports}}
 use Rattle.ptu_outside.specs.Taken.{Gave}
-use Rattle.ptu_outside.proofs.Telling.{IfTold-refl}
+use Rattle.ptu_outside.proofs.{Taken.{Gave-append, Gave-none, Gave-one, IsEmptyTold-kept}, Telling.{IfTold-refl}}
 use Rattle.ptu_record.specs.Record.{Record}
 use Rattle.ptu_slave_messages.specs.Node.{Node}
 use Rattle.ptu_slave.specs.Seen.{Seen}
@@ -31,45 +31,17 @@ counted_both a b c s t f g d e p q = (omega (arith, p.0, q.0), omega (arith, p.1
 pub counted_round : (a b c d : Tally) (s t u f g h e : ℕ) → Counted s f a b → Counted t (g + e) b c → Counted u h c d → Counted (s + t + u) (f + g + h + e) a d
 counted_round a b c d s t u f g h e p q r = (omega (arith, p.0, q.0, r.0), omega (arith, p.1, q.1, r.1))
 
--- ---- what waits
-
-pub came_none : (before after : Option (List Arrival)) → IfTold after before → Gave before after []
-came_none before None same = tt
-came_none before (Some left) same = same
-
-pub came_append : (before now after : Option (List Arrival)) (xs ys : List Arrival) → Gave before now xs → Gave now after ys → Gave before after (xs ++ ys)
-came_append before now None xs ys p q = tt
-came_append before None (Some left) xs ys p q = absurd (cc q)
-came_append before (Some middle) (Some left) xs ys p q =
-    let same : middle ≡ ys ++ left = cc q in
-    p ∙ ap (λ l. Some (xs ++ l)) same ∙ ap Some (sym (append_assoc xs ys left))
-
--- the first was taken off
-pub came_first : (before after : Option (List Arrival)) (arrival : Arrival) → IsFirstTold before arrival → IfTold after (rest_told before) → Gave before after (arrival ∷ [])
-came_first before None arrival first rest = tt
-came_first None (Some left) arrival first rest = absurd (cc rest)
-came_first (Some []) (Some left) arrival first rest = absurd (cc first)
-came_first (Some (x ∷ xs)) (Some left) arrival first rest =
-    let is : x ≡ arrival = cc first in
-    let others : xs ≡ left = cc rest in
-    ap₂ (λ y ys. Some (y ∷ ys)) is others
-
-pub empty_later : (before after : Option (List Arrival)) → IfTold after before → IsEmptyTold before → IsEmptyTold after
-empty_later before None same none = tt
-empty_later None (Some left) same none = absurd (cc same)
-empty_later (Some list) (Some left) same none = let is : list ≡ left = cc same in sym is ∙ none
-
 -- ---- one datagram
 
 pub one_came : (before after : Option (List Arrival)) (old new : ℕ) (arrival : Arrival) → IsFirstTold before arrival → IfTold after (rest_told before)
     → TookOne true before after old new (arrival ∷ []) 0
-one_came before after old new arrival first rest = record { came = came_first before after arrival first rest; many = refl; none = λ no. absurd (cc no); once = omega arith }
+one_came before after old new arrival first rest = record { came = Gave-one before after arrival first rest; many = refl; none = λ no. absurd (cc no); once = omega arith }
 
 pub none_came : (before after : Option (List Arrival)) (old new : ℕ) → IfTold after before → IsEmptyTold before → TookOne false before after old new [] 0
-none_came before after old new same none = record { came = came_none before after same; many = refl; none = λ no still. empty_later before after same none; once = omega arith }
+none_came before after old new same none = record { came = Gave-none before after same; many = refl; none = λ no still. IsEmptyTold-kept before after none same; once = omega arith }
 
 pub none_received : (before after : Option (List Arrival)) (old new : ℕ) → IfTold after before → HasRisen old new → TookOne false before after old new [] 1
-none_received before after old new same rises = record { came = came_none before after same; many = refl; none = λ no still. absurd (still rises); once = omega arith }
+none_received before after old new same rises = record { came = Gave-none before after same; many = refl; none = λ no still. absurd (still rises); once = omega arith }
 
 -- how many one more are
 abbrev one_if : Bool → ℕ
@@ -100,7 +72,7 @@ pub record CameSoFar (n : ℕ) (before after : Option (List Arrival)) (old new :
 pub so_far_more : (n : ℕ) (before now after : Option (List Arrival)) (old mid new : ℕ) (more : Bool) → more ≡ true → (xs ys : List Arrival) (m k : ℕ)
     → CameSoFar n before now old mid xs m → TookOne more now after mid new ys k → HasNotFallen old mid → CameSoFar (n + 1) before after old new (xs ++ ys) (m + k)
 so_far_more n before now after old mid new more is xs ys m k came one keeps = record {
-  came = came_append before now after xs ys came.came one.came;
+  came = Gave-append before now after xs ys came.came one.came;
   many = length-append xs ys ∙ ap₂ (λ m k. m + k) came.many (one.many ∙ ap one_if is);
   never = let never : k ≤ 0 = subst (λ b. k ≤ cond b 0 1) is one.once in omega (arith, never, came.never);
 }
@@ -119,7 +91,7 @@ round_full n before after old new full xs m came = record {
 pub round_short : (n : ℕ) (before now after : Option (List Arrival)) (old mid new : ℕ) (more : Bool) → n < 64 → more ≡ false → (xs ys : List Arrival) (m k : ℕ)
     → CameSoFar n before now old mid xs m → TookOne more now after mid new ys k → HasNotFallen old mid → RoundTook before after old new (xs ++ ys) (m + k)
 round_short n before now after old mid new more few none xs ys m k came one keeps = record {
-  came = came_append before now after xs ys came.came one.came;
+  came = Gave-append before now after xs ys came.came one.came;
   few = let empty : length ys ≡ 0 = one.many ∙ ap one_if none in omega (arith, few, empty, came.many, length-append xs ys);
   whole = λ still. inr (one.none none (still_after old mid new keeps still));
   once = let last : k ≤ 1 = subst (λ b. k ≤ cond b 0 1) none one.once in omega (arith, last, came.never);
@@ -138,7 +110,7 @@ module _ {P B C : Type 0} (ports : Ports P) (clocks : Clocks C) where
     0,
     0,
     counted_none counts,
-    record { came = came_none _ _ (IfTold-refl (ports.waiting slave.port)); many = refl; never = refl },
+    record { came = Gave-none _ _ (IfTold-refl (ports.waiting slave.port)); many = refl; never = refl },
     took_none ports.counts_once node L _ _ 0 h refl refl refl refl (failed_none ports.counts_once _ _ refl),
   )
 
@@ -152,7 +124,7 @@ module _ {P B C : Type 0} (ports : Ports P) (clocks : Clocks C) where
     0,
     counted_none counts,
     failed_none ports.counts_once _ _ refl,
-    record { came = came_none _ _ (IfTold-refl (ports.waiting event)); many = refl; never = refl },
+    record { came = Gave-none _ _ (IfTold-refl (ports.waiting event)); many = refl; never = refl },
     took_none ports.counts_once node L _ _ 0 h refl refl refl refl (failed_none ports.counts_once _ _ refl),
   )
 

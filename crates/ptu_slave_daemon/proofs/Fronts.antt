@@ -1,5 +1,5 @@
 -- What was written when the sink failed is a front of the whole output.
-use Rattle.std.proofs.Common.{◌≡◌, ◌∙◌, Bool, ℕ, ◌+◌, ◌-◌, ◌≤◌, ◌++◌, List, [], ◌∷◌, length, map, refl, sym, ap, ap₂, arith, append_assoc, Option, Some, None}
+use Rattle.std.proofs.Common.{◌≡◌, ◌∙◌, Bool, ℕ, ◌+◌, ◌-◌, ◌≤◌, ◌++◌, List, [], ◌∷◌, length, map, sym, ap, ap₂, arith, append_assoc, Option, Some, None}
 use Rattle.std.proofs.lemmas.List.{append-nil, map-append}
 use Rattle.std.specs.Prelude.{IsErrOf, IsSome, OnErr, Result, Ok, Err}
 use Rattle.ptu_outside.specs.{declared.arrival.Arrival.{Arrival}, Faults.{HasRisen}}
@@ -10,7 +10,8 @@ use Rattle.ptu_slave_daemon.specs.declared.line.SlaveLine.TheVariants.{Closing}
 use Rattle.ptu_slave_daemon.specs.Happenings.{SlaveHappening, Selection, Stops, happenings_of_rounds, happenings, record_by_happenings, slave_round_of, selections_in, sent_by_happenings}
 use Rattle.ptu_slave_daemon.specs.Lines.{changes, output, output_from, selected_line}
 use Rattle.ptu_slave_daemon.specs.Running.{AreSlaveRounds, AreTimed, IsFront, RoundsDone, RunDone, View}
-use Rattle.ptu_slave_daemon.proofs.{OneRound.{in_rounds-add}, Ports.{all_counted, none_risen}}
+use Rattle.ptu_outside.proofs.{HandsOver.{none_failed}, Telling.{some_told}}
+use Rattle.ptu_slave_daemon.proofs.{OneRound.{in_rounds-add}, Ports.{all_counted}}
 use Rattle.ptu_slave_daemon.proofs.{Runs.{selections_in-append}, Times.{timed-append}}
 use Rattle.ptu_slave_daemon.proofs.Written.{changes-append, said_after}
 
@@ -18,10 +19,6 @@ use Rattle.ptu_slave_daemon.proofs.Written.{changes-append, said_after}
 pub of_err : {T E P : Type 0} (r : Result T E) (e : E) → IsErrOf r e → OnErr r P → P
 of_err (Ok x) e is p = absurd (cc is)
 of_err (Err f) e is p = p
-
-some_of : {A : Type 0} (o : Option A) → IsSome o → (x : A) × (o ≡ Some x)
-some_of None is = absurd (cc is)
-some_of (Some x) is = (x, refl)
 
 -- what the clock's moments make of it
 timed_is : (before after : Option (List ℕ)) (times : List ℕ) (acts : List (ℕ → SlaveHappening)) (hs : List SlaveHappening) → AreTimed before after acts hs → before ≡ Some times → IsSome after
@@ -36,8 +33,8 @@ rounds_are : (n : ℕ) (general general' event event' : Option (List Arrival)) (
     → AreSlaveRounds n general general' event event' faults faults' event_faults event_faults' acts → ¬ HasRisen faults faults' → ¬ HasRisen event_faults event_faults'
     → general ≡ Some all → event ≡ Some event_all → IsSome general' → IsSome event' → acts ≡ in_rounds (slave_round_of all event_all) n
 rounds_are n general general' event event' faults faults' event_faults event_faults' acts all event_all rounds still event_still is event_is told event_told =
-    let left = some_of general' told in
-    let event_left = some_of event' event_told in
+    let left = some_told general' told in
+    let event_left = some_told event' event_told in
     let said = rounds still event_still left.0 event_left.0 left.1 event_left.1 in
     let same : said.0 ≡ all = cc (said.2, is) in
     let event_same : said.1 ≡ event_all = cc (said.3, event_is) in
@@ -62,8 +59,8 @@ module _ (once : Bool) (node : Node) (L : Record) (old new : View) (general gene
     where
       no_failures : failures ≡ 0
       no_failures =
-          let a : r.failed ≡ 0 = none_risen r.failed old.faults new.faults r.ran.port.fails.risen still in
-          let b : r.event_failed ≡ 0 = none_risen r.event_failed event_faults event_faults' r.event_fails.risen event_still in
+          let a : r.failed ≡ 0 = none_failed r.failed old.faults new.faults r.ran.port.fails.risen still in
+          let b : r.event_failed ≡ 0 = none_failed r.event_failed event_faults event_faults' r.event_fails.risen event_still in
           omega (arith, a, b, r.failures_are)
 
   -- the sink failed in the closing line

@@ -2,7 +2,7 @@
 use Rattle.std.proofs.Common.{◌≡◌, ◌≢◌, ◌∙◌, ℕ, zero, suc, ◌+◌, ◌<◌, ◌≤◌, ◌++◌, Bool, true, false, not, cond, ◌&&◌, ◌||◌, eq-eqb, add-one, List, [], ◌∷◌, map, length, drop, take, get_or, Option, None, Some, refl, sym, ap, ap₂, subst, arith}
 use Rattle.std.specs.List.{All, AllByRecursion, AllPairs, count_by, list_any}
 use Rattle.std.specs.{Prelude.{IsSome, nat_le, ◌==◌}, Option.{MatchOption}}
-use Rattle.std.proofs.lemmas.{Bool.{false≢true}, Bool.Decides.{nat_tests}}
+use Rattle.std.proofs.lemmas.{Bool.{and_parts, false≢true, not-true}, Bool.Decides.{nat_tests}}
 use Rattle.std.proofs.{lemmas.List.{map-append, take_more}, Math.Seq.{drop-cons}}
 use Rattle.std.proofs.lemmas.List.{Kept.{AllPairs-cons}, Elements.{All-from_recursion}}
 use Rattle.std.proofs.lemmas.List.Sums.{sum_by-cons}
@@ -19,14 +19,6 @@ use Rattle.ptu_slave_daemon.specs.Running.{IsAt}
 
 -- ---- masters
 
-and_both : (a b : Bool) → (a && b) ≡ true → (a ≡ true) × (b ≡ true)
-and_both true b is = (refl, is)
-and_both false b is = absurd (false≢true is)
-
-not_true : (a : Bool) → not a ≡ true → a ≡ false
-not_true true is = absurd (false≢true is)
-not_true false is = refl
-
 -- no later master has the address
 none_later : (ip : ℕ) (rest : List MasterSetting) → list_any (λ other. other.ip == ip) rest ≡ false → AllByRecursion (λ (b : Master). ip ≢ b.ip) (map watched_master_of rest)
 none_later ip [] none = tt
@@ -40,9 +32,9 @@ none_later ip (x ∷ rest) none = pick (x.ip == ip) refl none (none_later ip res
 distinct : (masters : List MasterSetting) → are_distinct masters ≡ true → AllPairs (λ a b. a.ip ≢ b.ip) (map watched_master_of masters)
 distinct [] is = λ i j d lt within. absurd (omega arith)
 distinct (m ∷ masters) is =
-    let parts = and_both (not (list_any (λ other. other.ip == m.ip) masters)) (are_distinct masters) is in
+    let parts = and_parts (not (list_any (λ other. other.ip == m.ip) masters)) (are_distinct masters) is in
     AllPairs-cons (λ a b. a.ip ≢ b.ip) (watched_master_of m) (map watched_master_of masters)
-    (All-from_recursion (λ b. m.ip ≢ b.ip) (map watched_master_of masters) (none_later m.ip masters (not_true (list_any (λ other. other.ip == m.ip) masters) parts.0)))
+    (All-from_recursion (λ b. m.ip ≢ b.ip) (map watched_master_of masters) (none_later m.ip masters (not-true (list_any (λ other. other.ip == m.ip) masters) parts.0)))
     (distinct masters parts.1)
 
 le_is : (m n : ℕ) → nat_le m n ≡ true → m ≤ n
@@ -50,8 +42,8 @@ le_is m n is = grind (arith, nat_tests)
 
 pub masters_are : (settings : SlaveSettings) → are_masters settings.masters ≡ true → AreMasters (map watched_master_of settings.masters)
 masters_are settings is =
-    let parts = and_both (nat_le 1 (length settings.masters) && nat_le (length settings.masters) 16) (are_distinct settings.masters) is in
-    let many = and_both (nat_le 1 (length settings.masters)) (nat_le (length settings.masters) 16) parts.0 in
+    let parts = and_parts (nat_le 1 (length settings.masters) && nat_le (length settings.masters) 16) (are_distinct settings.masters) is in
+    let many = and_parts (nat_le 1 (length settings.masters)) (nat_le (length settings.masters) 16) parts.0 in
     record {
       few = subst (λ n. n ≤ 16) (sym (length-map settings.masters watched_master_of)) (le_is (length settings.masters) 16 many.1);
       distinct = distinct settings.masters parts.1;

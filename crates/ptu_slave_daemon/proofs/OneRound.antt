@@ -11,7 +11,7 @@ use Rattle.ptu_slave_messages.specs.Node.{Node}
 use Rattle.ptu_outside.specs.declared.tally.Tally.{Tally}
 use Rattle.ptu_slave_daemon.specs.Happenings.{SlaveHappening, Selection, Stops, Ticks, happenings_of_rounds, arrive, record_by_happenings, slave_round_of, slave_round_with}
 use Rattle.ptu_slave_daemon.specs.Running.{AreSlaveRounds, Counted, HasFailed, IsAt, SlaveRan, RoundTook, RoundsDone, RunDone, View}
-use Rattle.ptu_slave_daemon.proofs.Arrived.{came_append, came_none}
+use Rattle.ptu_outside.proofs.Taken.{Gave-append, Gave-none}
 use Rattle.ptu_slave_daemon.proofs.Ports.{failed_append, failed_none, still_after, still_before}
 use Rattle.ptu_slave_daemon.proofs.Runs.{ran_append, ran_still}
 
@@ -108,8 +108,8 @@ module _ (once : Bool) (node : Node) (L : Record) (old : View) (general event : 
   done_none sent failures none none_failed h = record {
     took = [];
     taken = have_taken-none;
-    general_gave = came_none general general (IfTold-refl general);
-    event_gave = came_none event event (IfTold-refl event);
+    general_gave = Gave-none general general (IfTold-refl general);
+    event_gave = Gave-none event event (IfTold-refl event);
     hs = [];
     failed = 0;
     event_failed = 0;
@@ -133,9 +133,9 @@ module _ (once : Bool) (node : Node) (L : Record) (old : View) (general event : 
     took = p.took ++ round ∷ [];
     taken = have_taken-push p.took n round p.taken (took.few, event_took.few);
     general_gave = subst (Gave general general'') (sym (general_of-push p.took round))
-        (came_append general general' general'' (general_of p.took) xs p.general_gave took.came);
+        (Gave-append general general' general'' (general_of p.took) xs p.general_gave took.came);
     event_gave = subst (Gave event event'') (sym (event_of-push p.took round))
-        (came_append event event' event'' (event_of p.took) ys p.event_gave event_took.came);
+        (Gave-append event event' event'' (event_of p.took) ys p.event_gave event_took.came);
     hs = p.hs ++ hs;
     failed = p.failed + failed;
     event_failed = p.event_failed + event_failed;

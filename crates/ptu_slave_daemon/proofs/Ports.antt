@@ -1,26 +1,14 @@
 -- What became of a port over several calls.
-use Rattle.std.proofs.Common.{◌≡◌, ◌∙◌, inl, inr, ℕ, zero, suc, ◌+◌, ◌-◌, ◌^◌, ◌≤◌, ◌++◌, Bool, true, List, [], length, map, refl, sym, subst, arith, length-append, Option}
+use Rattle.std.proofs.Common.{◌≡◌, ◌∙◌, inl, ℕ, ◌+◌, ◌-◌, ◌++◌, Bool, true, List, [], length, map, refl, sym, subst, arith, length-append, Option}
 use Rattle.ptu_outside.specs.{declared.port.Port.{Ghosts as Ports}, Departure.{Departure}}
-use Rattle.ptu_outside.specs.Faults.{HasRisen, HasRisenBy, HasNotFallen, one_more}
+use Rattle.ptu_outside.specs.Faults.{HasRisen, HasNotFallen, one_more}
 use Rattle.ptu_outside.specs.{Telling.{IfTold, append_told}, HandsOver.{HandsOver, SentOf}}
-use Rattle.ptu_outside.proofs.HandsOver.{just_both, just_once, sent_both, sent_none}
+use Rattle.ptu_outside.proofs.HandsOver.{just_both, just_once, none_failed, not_fallen_both, not_fallen_none, risen_both, sent_both, sent_none}
 use Rattle.ptu_outside.proofs.Told.{HasRisenBy-before, HasRisenBy-after}
 use Rattle.ptu_outside.proofs.Telling.{IfTold-refl, IfTold-append, append_told-nil}
 use Rattle.ptu_slave_daemon.specs.Running.{HasFailed, PortDid}
 
 -- ---- counts of faults
-
-pub not_fallen_none : (old : ℕ) → HasNotFallen old old
-not_fallen_none old = (omega arith, λ end. refl)
-
-pub not_fallen_append : (old now new : ℕ) → HasNotFallen old now → HasNotFallen now new → HasNotFallen old new
-not_fallen_append old now new p q =
-    (omega (arith, p.0, q.0), λ end. let one : now ≡ old = p.1 end in q.1 (subst (λ n. 2 ^ 64 - 1 ≤ n) (sym one) end) ∙ one)
-
-pub risen_append : (old now new a b : ℕ) → HasRisenBy a old now → HasRisenBy b now new → HasNotFallen now new → HasRisenBy (a + b) old new
-risen_append old now new a b (inl p) (inl q) keeps = inl (omega arith)
-risen_append old now new a b (inl p) (inr q) keeps = inr q
-risen_append old now new a b (inr p) q keeps = inr (subst (λ n. 2 ^ 64 - 1 ≤ n) (sym (keeps.1 p)) p)
 
 -- a count that has not risen in the end has not risen on the way
 pub still_before : (old now new : ℕ) → HasNotFallen now new → ¬ HasRisen old new → ¬ HasRisen old now
@@ -28,12 +16,6 @@ still_before old now new keeps still rises = still (HasRisenBy-after 1 old now n
 
 pub still_after : (old now new : ℕ) → HasNotFallen old now → ¬ HasRisen old new → ¬ HasRisen now new
 still_after old now new keeps still rises = still (HasRisenBy-before 1 old now new keeps.0 rises)
-
--- where it has not risen nothing failed
-pub none_risen : (n old new : ℕ) → HasRisenBy n old new → ¬ HasRisen old new → n ≡ 0
-none_risen zero old new rises still = refl
-none_risen (suc n) old new (inl p) still = absurd (still (inl (omega arith)))
-none_risen (suc n) old new (inr p) still = absurd (still (inr p))
 
 pub failed_none : (once : Bool) (old new : ℕ) → new ≡ old → HasFailed once old new 0
 failed_none once old new same = record {
@@ -53,10 +35,10 @@ failed_once once old new rises counts keeps = record {
 
 pub failed_append : (once : Bool) (old now new a b : ℕ) → HasFailed once old now a → HasFailed once now new b → HasFailed once old new (a + b)
 failed_append once old now new a b p q = record {
-  risen = risen_append old now new a b p.risen q.risen q.no_fall;
+  risen = risen_both old now new a b p.risen q.risen q.no_fall;
   just = λ is. just_both old now new a b (p.just is) (q.just is) q.no_fall;
   quiet = λ none. q.quiet (omega (arith, none)) ∙ p.quiet (omega (arith, none));
-  no_fall = not_fallen_append old now new p.no_fall q.no_fall;
+  no_fall = not_fallen_both old now new p.no_fall q.no_fall;
 }
 
 -- ---- datagrams
@@ -112,5 +94,5 @@ port_append once before now after old mid new ds es s t f g m n p q = record {
 pub all_counted : (once : Bool) (before after : Option (List Departure)) (old new : ℕ) (ds : List Departure) (sent failed missed : ℕ)
     → PortDid once before after old new ds sent failed missed → ¬ HasRisen old new → sent ≡ length ds
 all_counted once before after old new ds sent failed missed p still =
-    let none : failed ≡ 0 = none_risen failed old new p.fails.risen still in
+    let none : failed ≡ 0 = none_failed failed old new p.fails.risen still in
     omega (arith, none, p.within, p.each)

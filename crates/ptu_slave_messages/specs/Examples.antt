@@ -1,7 +1,6 @@
 -- Datagrams that were made out by hand, and what the definitions say of them.
 use Rattle.std.specs.Prelude.{◌≡◌, ℕ, List, [], ◌∷◌, ◌++◌, replicate, slice_set, None, pos, Err}
 use Rattle.ptu_units.specs.declared.kind.Kind.TheVariants.{Announce, Sync}
-use Rattle.ptu_messages.specs.declared.header.PortIdentity.{PortIdentity}
 use Rattle.ptu_messages.specs.declared.header_fault.HeaderFault.TheVariants as headers
 use Rattle.ptu_messages.specs.declared.fault.MessageFault.TheVariants as faults
 use Rattle.ptu_messages.specs.Sent.{sent_message}

@@ -3,3 +3,4 @@ pub mod Keys
 pub mod Counts
 pub mod BigEndian
 pub mod Signs
+pub mod Places

@@ -1,4 +1,3 @@
-use Rattle.std.proofs.Common.{ℕ}
 use Rattle.ptu_config.specs.Limits.{IsGmInRange}
 use Rattle.ptu_config.specs.declared.settings.GmSettings.{GmSettings}
 use Rattle.ptu_profile.specs.Grandmaster.{IsWithinLimits}

@@ -1,13 +1,10 @@
-use Rattle.std.proofs.Common.{rules, ◌≡◌, ◌∙◌, ◌∷◌, [], ap, subst, Result, Ok, Err}
-use Rattle.std.specs.Result.{IfErr, OnErr, OnOk}
+use Rattle.std.proofs.Common.{rules, ◌≡◌, ◌∙◌, ◌∷◌, [], subst, Result, Ok, Err}
+use Rattle.std.proofs.lemmas.Result.{on_ok_weaker}
+use Rattle.std.specs.Result.{IfErr, OnErr}
 use Rattle.ptu_outside.specs.Handing.{HasPut, HasPutFront}
 use Rattle.ptu_outside.specs.declared.fault.DaemonFault.TheVariants as faults
-use Rattle.ptu_daemon.specs.{Served.{closing_line, said_by}, Serving.{HasServed}}
+use Rattle.ptu_daemon.specs.{Served.{said_by}, Serving.{HasServed}}
 use Rattle.ptu_daemon.proofs.serving.serve_within.Goals as goal
-
-on_ok_more : {T E A B : Type 0} (r : Result T E) → (A → B) → OnOk r A → OnOk r B
-on_ok_more (Ok x) f h = f h
-on_ok_more (Err e) f h = tt
 
 if_err_more : {T E A B : Type 0} (F : E → Type 0) (r : Result T E) → (A → B) → OnErr r A → IfErr r (λ e. F e → B)
 if_err_more F (Ok x) f h = tt
@@ -31,7 +28,7 @@ returns-clause-answer g c =
       by_lanes = c.in-Ok-serve_over.ensures.by_lanes;
     } in
     record {
-      served = on_ok_more c.put.result
+      served = on_ok_weaker c.put.result
           (λ put. (said, subst (λ line. HasPut g.K.Sink.written g.K.Sink.handed c.args.sink.now c.put.new.sink (line ∷ [])) text_is put, is)) c.put.ensures.whole;
       part = if_err_more (λ fault. fault ≡ faults.Write) c.put.result
           (λ put. (said, subst (λ line. HasPutFront g.K.Sink.written g.K.Sink.handed c.args.sink.now c.put.new.sink line) text_is put, is)) c.put.ensures.part;

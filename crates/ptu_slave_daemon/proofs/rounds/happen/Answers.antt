@@ -2,7 +2,8 @@ use Rattle.std.proofs.Common.{[], ◌∷◌, ◌++◌, ◌+◌, ◌∙◌, arith
 use Rattle.ptu_slave_daemon.specs.Running.{HasFailed, RoundTook}
 use Rattle.ptu_slave_daemon.specs.Happenings.{Ticks, arrive, record_by_happenings}
 use Rattle.ptu_slave_daemon.proofs.Arrived.{counted_round, round_later, took_append}
-use Rattle.ptu_slave_daemon.proofs.{Ports.{not_fallen_append}, Runs.{ran_append, ran_missed}}
+use Rattle.ptu_outside.proofs.HandsOver.{not_fallen_both}
+use Rattle.ptu_slave_daemon.proofs.Runs.{ran_append, ran_missed}
 use Rattle.ptu_slave_daemon.proofs.rounds.happen.Goals as goal
 
 pub returns-clause-ran : goal.returns-clause-ran
@@ -20,7 +21,7 @@ returns-clause-ran g c = λ node L round h.
       p.3,
       counted_round _ _ _ _ p.1 q.1 t.0 p.2 q.2 t.1 q.3 p.4 q.4 t.3,
       subst (λ faults. HasFailed g.P.Port.counts_once (g.P.Port.faults c.args.event.now) faults q.3) (sym c.tick.ensures.event_quiet) q.5,
-      round_later _ _ _ _ _ _ p.0 p.3 p.5 (c.tick.ensures.waiting ∙ c.take_all_event.ensures.waiting) (not_fallen_append _ _ _ q.7.1.port.fails.no_fall t.4.port.fails.no_fall),
+      round_later _ _ _ _ _ _ p.0 p.3 p.5 (c.tick.ensures.waiting ∙ c.take_all_event.ensures.waiting) (not_fallen_both _ _ _ q.7.1.port.fails.no_fall t.4.port.fails.no_fall),
       subst (λ faults. RoundTook (g.P.Port.waiting c.args.event.now) (g.P.Port.waiting c.tick.new.event) (g.P.Port.faults c.args.event.now) faults q.0 q.3)
           (sym c.tick.ensures.event_quiet)
           (subst (λ left. RoundTook (g.P.Port.waiting c.args.event.now) left (g.P.Port.faults c.args.event.now) (g.P.Port.faults c.take_all_event.new.event) q.0 q.3)

@@ -1,5 +1,6 @@
 use Rattle.std.proofs.{Common.{refl, length, ◌<◌}, lemmas.List.{length-set}}
-use Rattle.ptu_requester.proofs.Masters.{kept_read, stands_entered, slice_get-set_other}
+use Rattle.ptu_units.proofs.Places.{slice_get-set_other}
+use Rattle.ptu_requester.proofs.Masters.{kept_read, stands_entered}
 use Rattle.ptu_requester.proofs.requester.Requester.enter.Goals as goal
 
 pub returns-clause-entered : goal.returns-clause-entered
