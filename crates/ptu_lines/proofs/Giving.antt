@@ -1,11 +1,10 @@
 -- Lines that a reader gave in several calls.
 use Rattle.std.proofs.Common.{◌≡◌, ◌∙◌, ℕ, List, [], ◌∷◌, ◌++◌, map, Option, Some, None, refl, sym, ap, append_assoc, arith}
 use Rattle.std.specs.{Option.{option_map}, List.{flat_map}, Io.KnownBytes.{prepend_known}}
-use Rattle.std.proofs.lemmas.{List.{append-nil, length-append}, List.Concat.{flat_map-append}}
+use Rattle.std.proofs.lemmas.{Iterator.Adapters.{option_map_id}, List.{append-nil, length-append, map-append}, List.Concat.{flat_map-append}}
 use Rattle.ptu_outside.proofs.Told.{prepend_known-nil, prepend_known-append}
 use Rattle.ptu_lines.specs.Script.{ScriptLine, Whole, AreEnded, AreLines, lines_from, pieces, script_lines, text_of}
 use Rattle.ptu_lines.specs.Reading.{Reader, Gives, IsFresh, lines_left}
-use Rattle.ptu_lines.proofs.NextLine.{option_map-id}
 
 pub fresh_lines : (reader : Reader) (left : Option (List ℕ)) → IsFresh reader → lines_left reader left ≡ option_map script_lines left
 fresh_lines reader None fresh = refl
@@ -22,16 +21,12 @@ Gives-none reader left = record {
   each = tt;
   ended = λ not_end. (not_end, tt);
   number = omega arith;
-  told = option_map-id (lines_left reader left);
+  told = sym (option_map_id (lines_left reader left));
 }
 
 pub AreEnded-append : (xs ys : List (List ℕ)) → AreEnded xs → AreEnded ys → AreEnded (xs ++ ys)
 AreEnded-append [] ys p q = q
 AreEnded-append (x ∷ xs) ys p q = (p.0, AreEnded-append xs ys p.1 q)
-
-map-append : (xs ys : List (List ℕ)) → map (λ line. Whole (text_of line)) (xs ++ ys) ≡ map (λ line. Whole (text_of line)) xs ++ map (λ line. Whole (text_of line)) ys
-map-append [] ys = refl
-map-append (x ∷ xs) ys = ap (λ l. Whole (text_of x) ∷ l) (map-append xs ys)
 
 told-append : (xs ys : List ScriptLine) (o : Option (List ScriptLine)) → option_map (λ rest. xs ++ rest) (option_map (λ rest. ys ++ rest) o) ≡ option_map (λ rest. (xs ++ ys) ++ rest) o
 told-append xs ys None = refl
@@ -55,5 +50,5 @@ Gives-append a b c l m n xs ys p q = record {
   number = omega (arith, p.number, q.number, length-append xs ys);
   told = p.told ∙ (ap (option_map (λ rest. map (λ line. Whole (text_of line)) xs ++ rest)) q.told
       ∙ (told-append (map (λ line. Whole (text_of line)) xs) (map (λ line. Whole (text_of line)) ys) (lines_left c n)
-      ∙ ap (λ all. option_map (λ rest. all ++ rest) (lines_left c n)) (sym (map-append xs ys))));
+      ∙ ap (λ all. option_map (λ rest. all ++ rest) (lines_left c n)) (sym (map-append (λ line. Whole (text_of line)) xs ys))));
 }

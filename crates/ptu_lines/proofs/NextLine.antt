@@ -2,15 +2,11 @@
 use Rattle.std.proofs.Common.{◌≡◌, ◌∙◌, ℕ, ◌+◌, ◌<◌, ◌≤◌, Bool, true, false, List, [], ◌∷◌, ◌++◌, length, take, drop, Option, Some, None, refl, sym, ap, arith}
 use Rattle.std.specs.{Prelude.{IfNone}, Option.{option_map}, List.{position}}
 use Rattle.std.specs.Io.KnownBytes.{prepend_known}
-use Rattle.std.proofs.lemmas.List.{append-nil, length-append, take-append-drop}
+use Rattle.std.proofs.lemmas.{Iterator.Adapters.{option_map_id}, List.{append-nil, length-append, take-append-drop}}
 use Rattle.ptu_lines.specs.declared.cause.LineCause.{LineCause}
 use Rattle.ptu_lines.specs.Script.{Whole, HasNoEnd, is_end, cause_of, text_of}
 use Rattle.ptu_lines.specs.Reading.{Reader, Gives, IsGiven, IsAllGiven, IsRefused, IsStopped, AgreesOnEnd, IsEnough, known_of, lines_to_come}
 use Rattle.ptu_lines.proofs.Cutting.{Decides, at_end-nothing, cause_of-reading, decides, known-is_ended, known-is_line, take-length_of_known, to_come-refused, to_come-same, to_come-whole}
-
-pub option_map-id : {A : Type 0} (o : Option A) → o ≡ option_map (λ x. x) o
-option_map-id None = refl
-option_map-id (Some x) = refl
 
 pub not_ended : (old new : Bool) → (old ≡ true → new ≡ true) → new ≡ false → old ≡ false
 not_ended false new stays e = refl
@@ -32,7 +28,7 @@ module _ (from : Reader) (now : List ℕ) (is_ended : Bool) (left left' : Option
     each = tt;
     ended = λ not_end. (not_ended from.is_ended is_ended stays not_end, tt);
     number = omega arith;
-    told = to_come-same from.before from.before from.waiting now octets left left' refl grown taken ∙ option_map-id (lines_to_come from.before now left');
+    told = to_come-same from.before from.before from.waiting now octets left left' refl grown taken ∙ sym (option_map_id (lines_to_come from.before now left'));
   }
 
   pub is_stopped : (text : List ℕ) → HasNoEnd now → is_ended ≡ false → IsStopped from (reading_on text) left left'

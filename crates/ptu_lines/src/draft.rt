@@ -1,5 +1,5 @@
-//! Texts one after the other in one buffer, of which the last one is in the making, and the trait of
-//! a value that is written as one text.
+//! Texts one after the other in one buffer, of which the last one is in the making, and the trait
+//! of a value that is written as one text.
 
 ghost use Rattle.std.specs.Prelude.{◌≡◌, ◌++◌, [], List, ℕ, length, OnOk};
 ghost use Rattle.hex.specs.Hex.{encode_lower};

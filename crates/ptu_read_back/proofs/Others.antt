@@ -1,5 +1,5 @@
 -- Lines that say nothing of a grandmaster's promises, each read by its form.
-use Rattle.std.proofs.Common.{◌≡◌, ℕ, ◌<◌, List, [], ◌∷◌, length, get_or, codes, Option, Some, None, decimal, lit<, refl, false}
+use Rattle.std.proofs.Common.{◌≡◌, ◌∙◌, ℕ, ◌<◌, Bool, true, false, ◌||◌, List, [], ◌∷◌, length, get_or, codes, Option, Some, None, decimal, lit<, refl, ap}
 use Rattle.ptu_units.specs.declared.kind.Kind.{Kind}
 use Rattle.ptu_units.specs.Kind.{kind_of}
 use Rattle.ptu_messages.specs.declared.header_fault.HeaderFault.{HeaderFault}
@@ -20,10 +20,10 @@ use Rattle.ptu_report_lines.specs.declared.reason.Reason.TheVariants as reasons
 use Rattle.ptu_report_lines.specs.Statements.{kind_or_code, selected_text}
 use Rattle.ptu_audit_lines.specs.declared.entry.Entry.TheVariants as entries
 use Rattle.ptu_audit_lines.specs.Forms.{is_in_place}
-use Rattle.ptu_audit_lines.specs.Entry.{datagram_forms, entry_of, slave_forms}
+use Rattle.ptu_audit_lines.specs.Entry.{datagram_forms, entry_of, is_among, slave_forms}
 use Rattle.ptu_read_back.specs.Ranges.{IsAddress, IsDelayAnswerInRange, IsFault, IsHeaderFault, IsHearing, IsMaster, IsNumber, IsReason, IsReceived, IsTlvFault}
 use Rattle.ptu_read_back.proofs.Forms.{IsNumbered, among}
-use Rattle.ptu_read_back.proofs.Entries.{datagram_entry, is_of_node, of_other, slave_entry}
+use Rattle.ptu_read_back.proofs.Entries.{is_of_node, of_other, other_entry}
 use Rattle.ptu_read_back.proofs.Places.{AreIn, address_in, has_form, kind_in, number_in}
 use Rattle.ptu_read_back.proofs.Statements.{delay_words, fault_words, header_words, hearing_words, reason_words, received_words, tlv_words}
 
@@ -44,12 +44,19 @@ pub record HasWords (line : List ℕ) (n : ℕ) (tag : List ℕ) (rest : List (L
 slave_line : (line : List ℕ) (n : ℕ) (tag : List ℕ) (rest : List (List ℕ)) (i j : ℕ) → HasWords line n tag rest → is_of_node tag ≡ false → IsAt slave_forms i j
     → AreIn (words_of (form_at slave_forms i j)) (decimal n ∷ tag ∷ rest) → entry_of line ≡ Some entries.Other
 slave_line line n tag rest i j h differs place each =
-    slave_entry line n tag rest h.numbered (of_other tag differs) (among slave_forms line i j place.0 place.1 (has_form (form_at slave_forms i j) line (decimal n ∷ tag ∷ rest) h.words each))
+    other_entry line n tag rest h.numbered (of_other tag differs)
+    (ap (λ b. b || is_among datagram_forms line) (among slave_forms line i j place.0 place.1 (has_form (form_at slave_forms i j) line (decimal n ∷ tag ∷ rest) h.words each)))
+
+or_true : (b : Bool) → (b || true) ≡ true
+or_true true = refl
+or_true false = refl
 
 datagram_line : (line : List ℕ) (n : ℕ) (tag : List ℕ) (rest : List (List ℕ)) (i j : ℕ) → HasWords line n tag rest → is_of_node tag ≡ false → IsAt datagram_forms i j
     → AreIn (words_of (form_at datagram_forms i j)) (decimal n ∷ tag ∷ rest) → entry_of line ≡ Some entries.Other
 datagram_line line n tag rest i j h differs place each =
-    datagram_entry line n tag rest h.numbered (of_other tag differs) (among datagram_forms line i j place.0 place.1 (has_form (form_at datagram_forms i j) line (decimal n ∷ tag ∷ rest) h.words each))
+    other_entry line n tag rest h.numbered (of_other tag differs)
+    (ap (λ b. is_among slave_forms line || b) (among datagram_forms line i j place.0 place.1 (has_form (form_at datagram_forms i j) line (decimal n ∷ tag ∷ rest) h.words each))
+    ∙ or_true (is_among slave_forms line))
 
 -- ---- what slaves do and hear
 
