@@ -3,7 +3,6 @@ pub mod Members
 pub mod LeaseRecords
 pub mod Currents
 pub mod Moments
-pub mod Pacing
 pub mod Order
 pub mod Decisions
 pub mod Renewals

@@ -1,9 +1,8 @@
 -- Members of lists and tests that they pass, and grants of one client and kind among grants that are distinct.
-use Rattle.std.proofs.Common.{◌≡◌, ◌∙◌, zero, suc, ◌++◌, List, [], ◌∷◌, Bool, true, false, ◌&&◌, ◌||◌, cond, refl, sym, ap, arith}
+use Rattle.std.proofs.Common.{◌≡◌, ◌∙◌, zero, suc, ◌++◌, List, [], ◌∷◌, Bool, true, false, ◌&&◌, ◌||◌, cond, get_or, refl, sym, ap, subst, arith, length-append}
 use Rattle.std.specs.List.{All, AllPairs, Contains, filter, list_any}
 use Rattle.std.proofs.lemmas.Bool.{or_left, or_parts, or_right, or_from, false≢true, true≢false, false_from_ne_true}
-use Rattle.std.proofs.lemmas.List.Elements.{All-cons, All-head, All-nil, All-tail, Contains-append_right}
-use Rattle.std.proofs.lemmas.List.Kept.{AllPairs-cons}
+use Rattle.std.proofs.lemmas.{List.{get_or_append_left}, List.Elements.{All-head, All-tail, Contains-append_right}}
 use Rattle.ptu_units.specs.declared.kind.Kind.{Kind}
 use Rattle.ptu_units.specs.{declared.client.Client.{Client}, Client.{same_lease}}
 use Rattle.ptu_history.specs.Live.{Grant, IsDistinctByLease, is_of}
@@ -47,18 +46,14 @@ pairs_front R x xs pairs = λ i d lt. pairs 0 (suc i) d (omega arith) (omega ari
 pub pairs_rest : {A : Type 0} (R : A → A → Type 0) (x : A) (xs : List A) → AllPairs R (x ∷ xs) → AllPairs R xs
 pairs_rest R x xs pairs = λ i j d before within. pairs (suc i) (suc j) d (omega arith) (omega arith)
 
-pub all_first : {A : Type 0} (P : A → Type 0) (xs ys : List A) → All P (xs ++ ys) → All P xs
-all_first P [] ys all = All-nil P
-all_first P (x ∷ xs) ys all = All-cons P x xs (All-head P x (xs ++ ys) all) (all_first P xs ys (All-tail P x (xs ++ ys) all))
-
 pub all_second : {A : Type 0} (P : A → Type 0) (xs ys : List A) → All P (xs ++ ys) → All P ys
 all_second P [] ys all = all
 all_second P (x ∷ xs) ys all = all_second P xs ys (All-tail P x (xs ++ ys) all)
 
 pub pairs_first : {A : Type 0} (R : A → A → Type 0) (xs ys : List A) → AllPairs R (xs ++ ys) → AllPairs R xs
-pairs_first R [] ys pairs = λ i j d before within. absurd (omega arith)
-pairs_first R (x ∷ xs) ys pairs =
-    AllPairs-cons R x xs (all_first (R x) xs ys (pairs_front R x (xs ++ ys) pairs)) (pairs_first R xs ys (pairs_rest R x (xs ++ ys) pairs))
+pairs_first R xs ys pairs = λ i j d before within.
+    subst (R (get_or xs i d)) (get_or_append_left xs ys d j within)
+    (subst (λ x. R x (get_or (xs ++ ys) j d)) (get_or_append_left xs ys d i (omega (arith, before, within))) (pairs i j d before (omega (arith, within, length-append xs ys))))
 
 -- the two are of different clients or kinds
 abbrev pub Differ : Grant → Grant → Type 0

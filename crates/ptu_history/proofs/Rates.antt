@@ -2,7 +2,7 @@
 use Rattle.std.proofs.Common.{◌≡◌, ◌∙◌, ℕ, zero, suc, ◌+◌, ◌%◌, ◌<◌, ◌≤◌, ◌++◌, List, [], ◌∷◌, map, get_or, Bool, true, false, not, cond, eqb, ltb, refl, sym, ap, subst, arith, Option, Some, ℤ}
 use Rattle.std.proofs.lemmas.{Bool.{lt-ltb, or_from, or_left, or_right}, Nat.{mod_below}}
 use Rattle.std.proofs.lemmas.List.Elements.{All-cons, All-head, All-nil, All-tail, All-weaker}
-use Rattle.std.proofs.lemmas.List.{Sorted.{sum_by-IsPermutation}, Sums.{sum_by-append, sum_by-cons}}
+use Rattle.std.proofs.lemmas.List.{Filters.{sum_by-filter_both}, Sorted.{sum_by-IsPermutation}, Sums.{sum_by-append, sum_by-cons}}
 use Rattle.std.specs.List.{All, AllPairs, filter, list_any, sum_by}
 use Rattle.ptu_units.specs.declared.{kind.Kind.{Kind}, client.Client.{Client}}
 use Rattle.ptu_units.specs.{Log.{rate_of}, Client.{table_of}}
@@ -16,16 +16,6 @@ use Rattle.ptu_history.proofs.Members.{Differ, all_second, any_filtered, filter_
 use Rattle.ptu_history.proofs.Order.{IsPermutation-in_order, shed_prefix-rest}
 use Rattle.ptu_history.proofs.Orders.{live_distinct, live_members, shed_order-distinct}
 use Rattle.ptu_units.proofs.Keys.{same_lease-refl, same_lease-sym}
-
--- a sum in two parts
-rates-parts : (p : Grant → Bool) (gs : List Grant) → rate_sum gs ≡ rate_sum (filter (λ g. not (p g)) gs) + rate_sum (filter p gs)
-rates-parts p [] = refl
-rates-parts p (g ∷ gs) = at (p g) (rates-parts p gs)
-  where
-    at : (b : Bool) → rate_sum gs ≡ rate_sum (filter (λ g. not (p g)) gs) + rate_sum (filter p gs) →
-        rate_sum (g ∷ gs) ≡ rate_sum (cond (not b) (g ∷ filter (λ g. not (p g)) gs) (filter (λ g. not (p g)) gs)) + rate_sum (cond b (g ∷ filter p gs) (filter p gs))
-    at true ih = omega (arith, ih, sum_by-cons (λ (g : Grant). rate_of g.log) g gs, sum_by-cons (λ (g : Grant). rate_of g.log) g (filter p gs))
-    at false ih = omega (arith, ih, sum_by-cons (λ (g : Grant). rate_of g.log) g gs, sum_by-cons (λ (g : Grant). rate_of g.log) g (filter (λ g. not (p g)) gs))
 
 live_rate-none : (x : ℕ) (d : Option Record) → is_live x d ≡ false → live_rate x d ≡ 0
 live_rate-none x (Some (Granted n c k l u)) e = ap (λ b. cond b (rate_of l) 0) e
@@ -59,7 +49,10 @@ module _ (history : List Record) (x : ℕ) (c : Client) (k : Kind) where
 
   pub rates-own : rate_sum (live_grants history x) ≡ others history x c k + own_rate history x c k
   unfolding others
-  rates-own = rates-parts (is_of c k) (live_grants history x) ∙ ap (λ n. rate_sum (without c k (live_grants history x)) + n) rates-only
+  rates-own =
+      let parts : rate_sum (live_grants history x) ≡ rate_sum (without c k (live_grants history x)) + rate_sum (filter (is_of c k) (live_grants history x)) =
+      omega (arith, sum_by-filter_both (is_of c k) (λ g. not (is_of c k g)) (λ _. refl) (λ (g : Grant). rate_of g.log) (live_grants history x)) in
+      parts ∙ ap (λ n. rate_sum (without c k (live_grants history x)) + n) rates-only
 
 pub table_below : (c : Client) → table_of c < 4
 table_below c = mod_below (c.clock % 256 + c.port) 4 (omega arith)

@@ -1,19 +1,35 @@
 -- Chains, earliest moments and sequence numbers after a grant and after a message.
-use Rattle.std.proofs.Common.{◌≡◌, ◌≢◌, ◌∙◌, ℕ, ◌+◌, ◌%◌, ◌<◌, max, ◌++◌, List, [], ◌∷◌, length, Bool, true, false, not, cond, refl, sym, ap, arith, Option, Some, ℤ, ltb}
-use Rattle.std.specs.{List.{find}, Option.{option_map_or}, Ordering.{int_eq}}
+use Rattle.std.proofs.Common.{◌≡◌, ℕ, ◌+◌, ◌*◌, max, List, [], ◌∷◌, length, arith, ◌≢◌, ◌∙◌, ◌%◌, ◌<◌, ◌++◌, Bool, true, false, not, cond, refl, sym, ap, Option, Some, ℤ, ltb}
 use Rattle.std.proofs.lemmas.Bool.{lt-ltb, and_from, and_right, and_left, false_from_ne_true}
 use Rattle.std.proofs.lemmas.Bool.Decides.{Decides-int_eq}
+use Rattle.ptu_history.specs.{Moments.{greatest_by}, Live.{is_live, last_decision, live}}
+use Rattle.ptu_history.specs.Lawful.{carried, earliest_credited, earliest, earliest_of, edge_after, last_period, period_of_last}
+use Rattle.ptu_history.specs.History.{Record, Granted, Ended, Shed, Sent, is_decision, moment_of, lease_records}
+use Rattle.ptu_history.specs.Runs.{follows, continues, first_of_run, sent_in_run, root, chain, sequence_number, sent_in_chain}
+use Rattle.std.specs.{List.{find}, Option.{option_map_or}, Ordering.{int_eq}}
 use Rattle.ptu_units.specs.declared.kind.{Kind.{Kind}, Kind.TheVariants.{Announce, Sync, DelayResp}}
 use Rattle.ptu_units.specs.{declared.client.Client.{Client}, Log.{period_of}}
-use Rattle.ptu_history.specs.History.{Record, Granted, Ended, Shed, Sent, is_decision, moment_of, lease_records}
-use Rattle.ptu_history.specs.Live.{is_live, last_decision, live}
-use Rattle.ptu_history.specs.Runs.{follows, continues, first_of_run, sent_in_run, root, chain, sequence_number, sent_in_chain}
-use Rattle.ptu_history.specs.Lawful.{earliest, earliest_of, edge_after, last_period, period_of_last}
 use Rattle.ptu_units.proofs.Keys.{same_lease-refl}
 use Rattle.ptu_history.proofs.LeaseRecords.{lease_records-push_own}
-use Rattle.ptu_history.proofs.Pacing.{earliest_credited-cons}
 
--- the period of a grant that is the last decision
+-- ---- the credit of one message more
+
+carried-later : (p b after : ℕ) (ts : List ℕ) → max (b + p) (greatest_by (λ t. t) (carried p (after + 1) ts)) ≡ max b (greatest_by (λ t. t) (carried p after ts)) + p
+carried-later p b after [] = omega arith
+carried-later p b after (t ∷ ts) =
+    let ih : max (max b (t + after * p) + p) (greatest_by (λ t. t) (carried p (after + 1 + 1) ts)) ≡ max (max b (t + after * p)) (greatest_by (λ t. t) (carried p (after + 1) ts)) + p
+    = carried-later p (max b (t + after * p)) (after + 1) ts in
+    omega arith
+
+-- after one more message the earliest moment is the greater of a period later and the message's moment
+pub earliest_credited-cons : (p from t : ℕ) (ts : List ℕ) → earliest_credited p from (t ∷ ts) ≡ max (earliest_credited p from ts + p) t
+earliest_credited-cons p from t ts =
+    let later : max (from + (length ts + 1) * p + p) (greatest_by (λ t. t) (carried p (0 + 1) ts)) ≡ max (from + (length ts + 1) * p) (greatest_by (λ t. t) (carried p 0 ts)) + p
+    = carried-later p (from + (length ts + 1) * p) 0 ts in
+    omega arith
+
+-- ---- renewals and messages
+
 period_of_decision : (rs : List Record) (m : ℕ) (c : Client) (k : Kind) (l : ℤ) (u : ℕ) → find is_decision rs ≡ Some (Granted m c k l u) → period_of_last rs ≡ period_of l
 period_of_decision [] m c k l u e = absurd (cc)
 period_of_decision (Granted n c' k' l' u' ∷ rs) m c k l u e = let same : l' ≡ l = cc in ap period_of same

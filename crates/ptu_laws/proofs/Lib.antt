@@ -5,13 +5,11 @@ pub mod Timely
 pub mod Capacity
 pub mod Verdicts
 pub mod Followed
-pub mod HeldTime
 pub mod Paced
 pub mod Payments
 pub mod Sums
 pub mod Covered
 pub mod Budget
-pub mod Parts
 pub mod Locality
 pub mod Bounds
 pub mod Promises

@@ -1,27 +1,60 @@
 -- What a turn or a Delay_Req sends depends on the records of its table alone, and on the book's moment.
-use Rattle.std.proofs.Common.{◌≡◌, ◌∙◌, ℕ, max, List, [], ◌∷◌, map, reverse, Bool, true, false, ◌&&◌, cond, eqb, ltb, refl, sym, ap, subst, arith}
-use Rattle.std.proofs.lemmas.Bool.{and_parts, eqb-true, eq-eqb, false≢true}
-use Rattle.std.proofs.lemmas.List.Elements.{All-weaker, filter_agree, filter_passes}
+use Rattle.std.proofs.Common.{◌≡◌, ◌∙◌, List, [], ◌∷◌, map, Bool, true, false, cond, refl, sym, ap, ℕ, max, reverse, ◌&&◌, eqb, ltb, subst, arith}
+use Rattle.std.proofs.lemmas.Bool.{false≢true, and_parts, eqb-true, eq-eqb}
+use Rattle.std.proofs.lemmas.List.Elements.{All-head, All-tail, All-weaker, filter_agree, filter_passes}
 use Rattle.std.proofs.lemmas.List.Sorted.{All-permutation}
-use Rattle.std.specs.{List.{All, filter, list_any}, Ordering.{nat_cmp, ordering_then}}
-use Rattle.ptu_units.specs.declared.kind.Kind.{Kind}
-use Rattle.ptu_units.specs.declared.{kind.Kind.TheVariants.{DelayResp}, client.Client.{Client}}
-use Rattle.ptu_units.specs.Client.{client_cmp, kind_cmp, same_lease, table_of}
-use Rattle.ptu_history.specs.{Order.{in_order}, Runs.{chain, sent_in_chain, sequence_number}}
+use Rattle.std.specs.List.{All, filter, list_any}
+use Rattle.std.specs.{Ordering.{is_lt, nat_cmp, ordering_then}, declared.cmp.Ordering.{Ordering}}
+use Rattle.ptu_history.specs.Order.{in_order, insert_in_order}
+use Rattle.ptu_history.specs.{Runs.{chain, sent_in_chain, sequence_number}, Verdict.{Config}}
 use Rattle.ptu_history.specs.History.{Record, Granted, Ended, Shed, Looked, Sent, concerns, decides, is_decision, moment_of, lease_records}
 use Rattle.ptu_history.specs.Moments.{book_moment, greatest_by, is_of_table, table_moment, table_part}
 use Rattle.ptu_history.specs.Live.{Grant, last_decision, live, live_grants, standing}
 use Rattle.ptu_history.specs.Lawful.{earliest, last_period, lawful}
-use Rattle.ptu_history.specs.{Verdict.{Config}, Events.{Turn, DelayReq, Turned, Responded}}
+use Rattle.ptu_history.specs.Events.{Turn, DelayReq, Turned, Responded}
 use Rattle.ptu_history.specs.Turns.{due_grants, is_due, is_turned, message_of, sent_record, turn_cmp}
 use Rattle.ptu_history.specs.Step.{answer_records, delay_answer, step}
 use Rattle.ptu_history.specs.Core.{core_step, table_step_moment}
+use Rattle.ptu_history.proofs.{Order.{IsPermutation-in_order}, Lists.{filter-comm, list_any-filter}}
+use Rattle.ptu_units.specs.declared.kind.Kind.{Kind}
+use Rattle.ptu_units.specs.declared.{kind.Kind.TheVariants.{DelayResp}, client.Client.{Client}}
+use Rattle.ptu_units.specs.Client.{client_cmp, kind_cmp, same_lease, table_of}
 use Rattle.ptu_units.proofs.Keys.{same_lease-true}
-use Rattle.ptu_history.proofs.{Lists.{filter-comm, list_any-filter}, Order.{IsPermutation-in_order}}
 use Rattle.ptu_laws.specs.Part.{is_of_clients, part_of_clients, part_of_table}
-use Rattle.ptu_laws.proofs.Parts.{filter-wider, in_order-agree, map-agree}
 
--- what concerns a client is of the clients of its table
+-- ---- lists of which only a part matters
+
+pub filter-wider : {A : Type 0} (p q : A → Bool) → ((x : A) → p x ≡ true → q x ≡ true) → (xs : List A) → filter p (filter q xs) ≡ filter p xs
+filter-wider p q wider [] = refl
+filter-wider p q wider (x ∷ xs) = at (p x) refl (q x) refl (filter-wider p q wider xs)
+  where
+    at : (a : Bool) → p x ≡ a → (b : Bool) → q x ≡ b → filter p (filter q xs) ≡ filter p xs → filter p (cond b (x ∷ filter q xs) (filter q xs)) ≡ cond a (x ∷ filter p xs) (filter p xs)
+    at true e true f ih = ap (λ b. cond b (x ∷ filter p (filter q xs)) (filter p (filter q xs))) e ∙ ap (λ ys. x ∷ ys) ih
+    at true e false f ih = absurd (false≢true (sym f ∙ wider x e))
+    at false e true f ih = ap (λ b. cond b (x ∷ filter p (filter q xs)) (filter p (filter q xs))) e ∙ ih
+    at false e false f ih = ih
+
+module _ {A : Type 0} (cmp cmp' : A → A → Ordering) (P : A → Type 0) (agree : (x y : A) → P x → P y → cmp x y ≡ cmp' x y) where
+  insert-agree : (x : A) (ys : List A) → P x → All P ys → insert_in_order cmp x ys ≡ insert_in_order cmp' x ys
+  insert-agree x [] own all = refl
+  insert-agree x (y ∷ ys) own all =
+      ap (λ o. cond (is_lt o) (y ∷ insert_in_order cmp x ys) (x ∷ y ∷ ys)) (agree y x (All-head P y ys all) own)
+      ∙ ap (λ zs. cond (is_lt (cmp' y x)) (y ∷ zs) (x ∷ y ∷ ys)) (insert-agree x ys own (All-tail P y ys all))
+
+  -- orders that agree on the members put them in one order
+  pub in_order-agree : (xs : List A) → All P xs → in_order cmp xs ≡ in_order cmp' xs
+  in_order-agree [] all = refl
+  in_order-agree (x ∷ xs) all =
+      ap (λ ys. insert_in_order cmp x ys) (in_order-agree xs (All-tail P x xs all))
+      ∙ insert-agree x (in_order cmp' xs) (All-head P x xs all) (All-permutation P xs (in_order cmp' xs) (IsPermutation-in_order cmp' xs) (All-tail P x xs all))
+
+pub map-agree : {A B : Type 0} (f g : A → B) (P : A → Type 0) → ((x : A) → P x → f x ≡ g x) → (xs : List A) → All P xs → map f xs ≡ map g xs
+map-agree f g P agree [] all = refl
+map-agree f g P agree (x ∷ xs) all =
+    ap (λ y. y ∷ map f xs) (agree x (All-head P x xs all)) ∙ ap (λ ys. g x ∷ ys) (map-agree f g P agree xs (All-tail P x xs all))
+
+-- ---- histories
+
 own_client : (c d : Client) (k j : Kind) → same_lease c k d j ≡ true → eqb (table_of d) (table_of c) ≡ true
 own_client c d k j e = eq-eqb (table_of d) (table_of c) (ap table_of (sym (same_lease-true c k d j e).0))
 

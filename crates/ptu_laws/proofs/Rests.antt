@@ -1,7 +1,7 @@
 -- Fewer grants have no larger sum of rates.
-use Rattle.std.proofs.Common.{◌≡◌, ◌≤◌, List, [], ◌∷◌, Bool, true, false, cond, refl, arith}
+use Rattle.std.proofs.Common.{◌≡◌, ◌≤◌, List, [], ◌∷◌, Bool, true, false, not, cond, refl, arith}
 use Rattle.std.specs.List.{filter}
-use Rattle.std.proofs.lemmas.{Bool.{false≢true}, List.Sums.{sum_by-cons}}
+use Rattle.std.proofs.lemmas.{Bool.{false≢true}, List.Filters.{sum_by-filter_both}, List.Sums.{sum_by-cons}}
 use Rattle.ptu_units.specs.Log.{rate_of}
 use Rattle.ptu_history.specs.{Live.{Grant}, Verdict.{rate_sum}}
 
@@ -16,9 +16,4 @@ rate_sum-filter_le p q fewer (g ∷ gs) = at (p g) (q g) (fewer g) (rate_sum-fil
     at false false f ih = ih
 
 pub rate_sum-filter : (p : Grant → Bool) (gs : List Grant) → rate_sum (filter p gs) ≤ rate_sum gs
-rate_sum-filter p [] = omega arith
-rate_sum-filter p (g ∷ gs) = at (p g) (rate_sum-filter p gs)
-  where
-    at : (b : Bool) → rate_sum (filter p gs) ≤ rate_sum gs → rate_sum (cond b (g ∷ filter p gs) (filter p gs)) ≤ rate_sum (g ∷ gs)
-    at true ih = omega (arith, sum_by-cons (λ (g : Grant). rate_of g.log) g (filter p gs), sum_by-cons (λ (g : Grant). rate_of g.log) g gs, ih)
-    at false ih = omega (arith, sum_by-cons (λ (g : Grant). rate_of g.log) g gs, ih)
+rate_sum-filter p gs = omega (arith, sum_by-filter_both p (λ g. not (p g)) (λ _. refl) (λ (g : Grant). rate_of g.log) gs)

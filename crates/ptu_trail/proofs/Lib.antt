@@ -6,4 +6,3 @@ mod Knowing
 mod Living
 mod Sheds
 mod Sound
-mod Starting

@@ -1,6 +1,6 @@
 use Rattle.ptu_laws.proofs.{Payments.{payments-paid}, Stands.{follow-stand, sent-due, stand-from}}
 use Rattle.std.proofs.Common.{[]}
-use Rattle.ptu_trail.proofs.{Sound.{sound}, Starting.{keeps}}
+use Rattle.ptu_trail.proofs.Sound.{sound, keeps}
 use Rattle.ptu_trail.proofs.laws.faultless_trails.Goals as goal
 
 pub returns : goal.returns
