@@ -11,7 +11,7 @@ pub returns-clause-text : goal.returns-clause-text
 returns-clause-text c =
     let time = c.put_number.ensures.text ∙ ap (λ (k : ℕ). decimal k ++ c.args.line.now.text) c.nanos.ensures.value in
     let at = c.put_str.ensures.text ∙ ap (λ (t : List ℕ). codes " at " ++ t) time in
-    let number = c.put_number-2.ensures.text ∙ ap (λ (t : List ℕ). decimal c.args.number ++ t) at in
+    let number = c.put_number-2.ensures.text ∙ ap (λ (k : ℕ). decimal k ++ c.put_str.new.self.text) c.from.ensures ∙ ap (λ (t : List ℕ). decimal c.args.number ++ t) at in
     let space = c.put_str-2.ensures.text ∙ ap (λ (t : List ℕ). codes " " ++ t) number in
     let name = c.put_str-3.ensures.text ∙ ap (λ (t : List ℕ). c.args.name.now ++ t) space in
     let behind = c.put_str-4.ensures.text ∙ ap (λ (t : List ℕ). codes " " ++ t) name in
