@@ -149,7 +149,7 @@ pub serves_by_lanes : {P C L G R : Type 0} (ports : Ports P) (clocks : Clocks C)
     TablesSent ports (is_some speaking) config seen closed lanes.control.tally.sent totals.sent (turns_by lanes.sending) →
     ServesByLanes ports clocks settings config opened closed speaking speaking' totals.rounds (numbers_of totals)
 unfolding sent_since lawful_since exchanged_as
-serves_by_lanes ports clocks settings config opened closed speaking speaking' totals lanes seen opens did same moved back counted within together sends =
+serves_by_lanes {P = P} ports clocks settings config opened closed speaking speaking' totals lanes seen opens did same moved back counted within together sends =
     let failed = lanes.control.tally.failed in
     let missed = lanes.event.failed in
     record {
