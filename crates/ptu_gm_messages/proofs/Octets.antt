@@ -5,7 +5,7 @@ use Rattle.std.proofs.lemmas.List.Elements.{All-cons, All-drop, All-from_get_or,
 use Rattle.ptu_messages.specs.{declared.tlv.Tlv.{Tlv}, Tlv.{SpellsTlv}}
 use Rattle.ptu_messages.specs.declared.tlv.Tlv.TheVariants as tlv
 use Rattle.ptu_units.specs.Number.{high_nibble_at}
-use Rattle.ptu_history.proofs.Members.{all_first, all_second}
+use Rattle.ptu_history.proofs.Members.{all_second}
 use Rattle.ptu_messages.specs.Tlvs.{AreSpelled, SpellsTlvs}
 use Rattle.ptu_gm_messages.specs.declared.item.Item.{Item}
 use Rattle.ptu_gm_messages.specs.Items.{AreAnswerable, HasCode, item_of, items_among}
@@ -48,6 +48,10 @@ code_of_one octets (tlv.Other t n) h s = tt
 with_one : (o : Option Item) (items : List Item) → HasCodeIfAny o → All HasCode items → All HasCode (cons_option o items)
 with_one None items h all = all
 with_one (Some item) items h all = All-cons HasCode item items h all
+
+all_first : {A : Type 0} (P : A → Type 0) (xs ys : List A) → All P (xs ++ ys) → All P xs
+all_first P [] ys all = All-nil P
+all_first P (x ∷ xs) ys all = All-cons P x xs (All-head P x (xs ++ ys) all) (all_first P xs ys (All-tail P x (xs ++ ys) all))
 
 codes_of : (octets : List ℕ) (tlvs : List Tlv) → AreOctets octets → AreSpelled octets tlvs → All HasCode (items_among tlvs)
 codes_of octets [] h s = All-nil HasCode
