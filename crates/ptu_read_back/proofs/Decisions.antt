@@ -128,14 +128,23 @@ outside_log_read line w k l n kind z ws rw_ rk ro rl =
     let h : IsNumbered line n (codes "outside") (codes "log" ∷ k ∷ l ∷ []) = record { number = w; words = ws; read = rw_ } in
     rw (not_granted line n _ _ h refl, not_short line n _ _ h refl, no_outside_type line (rw (ws, rw_) refl), ws, rw_, rk, ro) (rw rl refl)
 
+outside_duration_here : (line w k l s : List ℕ) (n : ℕ) (kind : Kind) (z : ℤ) (seconds : ℕ)
+    → words_of line ≡ w ∷ codes "outside" ∷ codes "duration" ∷ k ∷ l ∷ s ∷ [] → any_number w ≡ Some n
+    → kind_named k ≡ Some kind → octet_log l ≡ Some z → log_of_kind kind l ≡ Some z → any_number s ≡ Some seconds
+    → (outside_type_in line ≡ None) × (outside_log_in line ≡ None) × (outside_duration_in line ≡ Some (decisions.OutsideDuration kind z seconds))
+unfolding outside_duration_in fitting fits is_in_place field
+outside_duration_here line w k l s n kind z seconds ws rw_ rk ro rl rs =
+    (no_outside_type line (rw (ws, rw_) refl), no_outside_log line (rw (ws, rw_) refl), rw (ws, rw_, rk, ro, rs) (rw rl refl))
+
 pub outside_duration_read : (line w k l s : List ℕ) (n : ℕ) (kind : Kind) (z : ℤ) (seconds : ℕ)
     → words_of line ≡ w ∷ codes "outside" ∷ codes "duration" ∷ k ∷ l ∷ s ∷ [] → any_number w ≡ Some n
     → kind_named k ≡ Some kind → octet_log l ≡ Some z → log_of_kind kind l ≡ Some z → any_number s ≡ Some seconds
     → decision_in line ≡ Some (decisions.OutsideDuration kind z seconds)
-unfolding decision_in outside_duration_in fitting fits is_in_place field
+unfolding decision_in
 outside_duration_read line w k l s n kind z seconds ws rw_ rk ro rl rs =
     let h : IsNumbered line n (codes "outside") (codes "duration" ∷ k ∷ l ∷ s ∷ []) = record { number = w; words = ws; read = rw_ } in
-    rw (not_granted line n _ _ h refl, not_short line n _ _ h refl, no_outside_type line (rw (ws, rw_) refl), no_outside_log line (rw (ws, rw_) refl), ws, rw_, rk, ro, rs) (rw rl refl)
+    let here = outside_duration_here line w k l s n kind z seconds ws rw_ rk ro rl rs in
+    rw (not_granted line n _ _ h refl, not_short line n _ _ h refl, here.0, here.1, here.2) refl
 
 pub cancelled_read : (line w k a : List ℕ) (n : ℕ) (kind : Kind) (at : ℕ)
     → words_of line ≡ w ∷ codes "cancelled" ∷ k ∷ codes "at" ∷ a ∷ [] → any_number w ≡ Some n
